@@ -1,0 +1,110 @@
+-- The single command over any volatile state S, any command type K and any act: what a call gives back and leaves, and
+-- lists of calls ("A single command is also public", "Demand 3 speaks of lists of such calls").
+use Prim.Native.Nat.{ℕ, zero, suc}
+use mathlib.Core.Bool.{cond}
+use mathlib.Core.List.{List, [], _∷_, _++_}
+use lib.Dec.{ltb}
+use lib.ListN.{length, drop}
+use Rattle.model.specs.Refusal.{bytesLeft, noSpace}
+
+-- a card with its volatile state
+pub record Powered (S : Type 0) : Type 0 where
+  pub card : List ℕ
+  pub state : S
+
+abbrev pub powered : {S : Type 0} → List ℕ → S → Powered S
+powered c s = record { card = c; state = s }
+
+-- all that an act hands out beside the card
+pub record Report (S : Type 0) : Type 0 where
+  pub state : S
+  pub answer : List ℕ
+
+-- what an act leaves
+pub record Acted (S : Type 0) : Type 0 where
+  pub card : List ℕ
+  pub report : Report S
+
+abbrev pub acted : {S : Type 0} → List ℕ → S → List ℕ → Acted S
+acted c s answer = record { card = c; report = record { state = s; answer = answer } }
+
+-- an act with no answer
+abbrev pub silent : {S : Type 0} → Powered S → Acted S
+silent m = acted (m .card) (m .state) []
+
+-- what a decoder finds at the front of some bytes: a refusal's number, or a command and the length of its record
+pub data Decoded (K : Type 0) : Type 0 where
+  refused : ℕ → Decoded K
+  whole : K → ℕ → Decoded K
+
+-- what a call gives back: the refusal's number or 0, the response's length, the volatile state, the whole response space
+pub record Reply (S : Type 0) : Type 0 where
+  pub refusal : ℕ
+  pub length : ℕ
+  pub state : S
+  pub space : List ℕ
+
+-- what a call leaves
+pub record Called (S : Type 0) : Type 0 where
+  pub card : List ℕ
+  pub reply : Reply S
+
+-- a call: a record and a response space
+pub record Call : Type 0 where
+  pub sent : List ℕ
+  pub space : List ℕ
+
+-- a refusal gives its number and length 0, hands the state back and changes nothing
+abbrev pub refusing : {S : Type 0} → ℕ → S → List ℕ → Reply S
+refusing n s space = record { refusal = n; length = 0; state = s; space = space }
+
+-- an accepted call writes its answer at the front of the space and keeps the rest
+abbrev pub replying : {S : Type 0} → List ℕ → Report S → Reply S
+replying space r =
+    record {
+      refusal = 0;
+      length = length (r .answer);
+      state = r .state;
+      space = r .answer ++ drop (length (r .answer)) space;
+    }
+
+-- after the checks of the card and the state: 0 if they passed, or the number of the one that failed
+abbrev pub checked : {K : Type 0} → ℕ → Decoded K → Decoded K
+checked zero d = d
+checked (suc n) d = refused (suc n)
+
+-- 9: bytes left after the record
+abbrev pub exact : {K : Type 0} → List ℕ → Decoded K → Decoded K
+exact bytes (refused n) = refused n
+exact bytes (whole k n) = cond (ltb n (length bytes)) (refused bytesLeft) (whole k n)
+
+module _ {S K : Type 0} (check : List ℕ → S → ℕ) (decode : List ℕ → Decoded K) (act : List ℕ → S → K → Acted S) where
+  -- 10: the space is too short for the answer
+  abbrev pub fitting : List ℕ → S → ℕ → Decoded K → Decoded K
+  fitting c s room (refused n) = refused n
+  fitting c s room (whole k n) = cond (ltb room (length (act c s k .report .answer))) (refused noSpace) (whole k n)
+
+  -- whether a call is refused, and with which number, or which command it carries out
+  unfoldable pub admit : List ℕ → S → Call → Decoded K
+  admit c s x = checked (check c s) (fitting c s (length (x .space)) (exact (x .sent) (decode (x .sent))))
+
+  abbrev pub carried : List ℕ → S → List ℕ → Decoded K → Called S
+  carried c s space (refused n) = record { card = c; reply = refusing n s space }
+  carried c s space (whole k n) = record { card = act c s k .card; reply = replying space (act c s k .report) }
+
+  unfoldable pub command : List ℕ → S → Call → Called S
+  command c s x = carried c s (x .space) (admit c s x)
+
+  -- the card and the state that the next call gets, after a refusal too
+  abbrev pub step : Powered S → Call → Powered S
+  step m x =
+      record { card = command (m .card) (m .state) x .card; state = command (m .card) (m .state) x .reply .state }
+
+  -- what a list of calls gives back, and what it leaves
+  unfoldable pub replies : List Call → Powered S → List (Reply S)
+  replies [] m = []
+  replies (x ∷ xs) m = command (m .card) (m .state) x .reply ∷ replies xs (step m x)
+
+  unfoldable pub final : List Call → Powered S → Powered S
+  final [] m = m
+  final (x ∷ xs) m = final xs (step m x)

@@ -1,0 +1,45 @@
+-- A secure memory card as numbers and functions, with no law among them: where its bytes lie, who may reach them, how its
+-- counters and fuses move. A place is an index into the card's bytes. The functions are total: they answer for every number.
+use Prim.Native.Nat.{ℕ}
+use mathlib.Core.Bool.{Bool}
+use mathlib.Core.List.{List}
+use Rattle.model.specs.Volatile.{Volatile}
+
+pub record Device : Type 0 where
+  -- how many bytes a card has, how many zones, how many password selectors
+  pub size : ℕ
+  pub zones : ℕ
+  pub selectors : ℕ
+  -- where the fuse byte lies
+  pub fuseAt : ℕ
+  -- the rule bytes, by which access is judged: where each lies, and how many there are
+  pub ruleAt : ℕ → ℕ
+  pub ruleCount : ℕ
+  -- by the rule bytes and the volatile state: whether a place may be read, or written
+  pub mayRead : List ℕ → Volatile → ℕ → Bool
+  pub mayWrite : List ℕ → Volatile → ℕ → Bool
+  -- by the rule bytes: what a place that may be written then holds, from what it held and what is written
+  pub merge : List ℕ → ℕ → ℕ → ℕ → ℕ
+  -- by the rule bytes: what a place that may not be read answers
+  pub concealed : List ℕ → ℕ → ℕ
+  -- the place of byte k of a read or a write at an address, in a zone and in the configuration
+  pub zoneByte : ℕ → ℕ → ℕ → ℕ
+  pub zoneCell : ℕ → ℕ → ℕ → ℕ
+  pub configurationByte : ℕ → ℕ → ℕ
+  pub configurationCell : ℕ → ℕ → ℕ
+  -- the answer to reset: the place of byte k, how many there are, how a byte is sent
+  pub resetByte : ℕ → ℕ
+  pub resetCount : ℕ
+  pub sent : ℕ → ℕ
+  -- of a selector: the place of its attempts counter and of byte k of its password; how long a password is
+  pub counterAt : ℕ → ℕ
+  pub passwordByte : ℕ → ℕ → ℕ
+  pub passwordCount : ℕ
+  -- the place of the authentication attempts counter and of byte k of the cryptogram
+  pub attemptsAt : ℕ
+  pub cryptogramCell : ℕ → ℕ
+  -- an attempts counter after a failed attempt
+  pub spend : ℕ → ℕ
+  -- who may blow a fuse, and the fuse byte after that
+  pub mayBlow : Volatile → Bool
+  pub blow : ℕ → ℕ

@@ -1,0 +1,164 @@
+-- What a command can do, for any device, told once over all twelve kinds: which bytes of the card it may change and why, and
+-- how the volatile state may move.
+use Prim.Native.Nat.{ℕ, suc}
+use mathlib.Core.Bool.{Bool, true, false, cond}
+use mathlib.Core.List.{List, [], _∷_}
+use mathlib.Core.Path.{_≡_, refl}
+use lib.Dec.{eqb}
+use lib.ListN.{length, set}
+use Rattle.model.specs.Lists.{at, sameList, stores, length-tab}
+use Rattle.model.specs.Volatile.{Volatile, none, selector, idle, begun, granted, powerUp, isBegun, selecting, activating, authenticating}
+use Rattle.model.specs.Command.{Command, powerCycle, reset, select, readZone, writeZone, readConfiguration, writeConfiguration, readFuses, writeFuses, verifyPassword, beginAuthentication, verifyAuthentication}
+use Rattle.model.specs.Device.{Device}
+use Rattle.model.specs.Apply.{fullCounter, rules, kept, password, spent, presented, started, judged, apply}
+
+-- the bytes that a command carries
+abbrev pub carried : Command → List ℕ
+carried powerCycle = []
+carried reset = []
+carried (select z) = []
+carried (readZone a n) = []
+carried (writeZone a xs) = xs
+carried (readConfiguration a n) = []
+carried (writeConfiguration a xs) = xs
+carried readFuses = []
+carried writeFuses = []
+carried (verifyPassword k xs) = xs
+carried beginAuthentication = []
+carried (verifyAuthentication v xs) = xs
+
+-- how long a command's answer is
+abbrev pub answerLength : Device → Command → ℕ
+answerLength D powerCycle = 0
+answerLength D reset = D .resetCount
+answerLength D (select z) = 0
+answerLength D (readZone a n) = n
+answerLength D (writeZone a xs) = 0
+answerLength D (readConfiguration a n) = n
+answerLength D (writeConfiguration a xs) = 0
+answerLength D readFuses = 1
+answerLength D writeFuses = 0
+answerLength D (verifyPassword k xs) = 0
+answerLength D beginAuthentication = 0
+answerLength D (verifyAuthentication v xs) = 0
+
+-- the attempts counters: that of a selector's password, and that of authentication
+pub data Counter : Type 0 where
+  ofPassword : ℕ → Counter
+  ofAuthentication : Counter
+
+abbrev pub counterPlace : Device → Counter → ℕ
+counterPlace D (ofPassword k) = D .counterAt k
+counterPlace D ofAuthentication = D .attemptsAt
+
+-- Why place i of a card d comes to hold v: a write of the j-th byte carried, judged by the rule bytes ρ and the state s; a
+-- counter filled or spent; a byte of the cryptogram replaced; a fuse blown.
+pub data Change (D : Device) (ρ : List ℕ) (s : Volatile) (xs : List ℕ) (d : List ℕ) : ℕ → ℕ → Type 0 where
+  writes : (i j : ℕ) → Change D ρ s xs d i (kept D ρ s i (at d i) (at xs j))
+  fills : (n : Counter) → Change D ρ s xs d (counterPlace D n) fullCounter
+  spends : (n : Counter) → Change D ρ s xs d (counterPlace D n) (D .spend (at d (counterPlace D n)))
+  renews : (k j : ℕ) → Change D ρ s xs d (D .cryptogramCell k) (at xs j)
+  blows : Change D ρ s xs d (D .fuseAt) (D .blow (at d (D .fuseAt)))
+
+-- How a command moves the state. A password becomes active only if it was presented rightly, authentication is granted only by
+-- verdict 1 where it was begun.
+pub data Move (D : Device) (c : List ℕ) (s : Volatile) : Command → Volatile → Type 0 where
+  stays : {k : Command} → Move D c s k s
+  powers : Move D c s powerCycle powerUp
+  resets : Move D c s reset (authenticating (activating s none) idle)
+  selects : {z : ℕ} → Move D c s (select z) (selecting s z)
+  opens : {j : ℕ} {xs : List ℕ} → sameList xs (password D c j) ≡ true → Move D c s (verifyPassword j xs) (activating s (selector j))
+  closes : {j : ℕ} {xs : List ℕ} → Move D c s (verifyPassword j xs) (activating s none)
+  begins : Move D c s beginAuthentication (authenticating s begun)
+  grants : {xs : List ℕ} → isBegun (s .authentication) ≡ true → Move D c s (verifyAuthentication true xs) (authenticating s granted)
+  denies : {xs : List ℕ} → Move D c s (verifyAuthentication false xs) (authenticating s idle)
+
+-- what every store keeps, stores keep
+stores-keep : (Inv : List ℕ → Type 0) (rule : ℕ → ℕ → ℕ → ℕ) (cell : ℕ → ℕ) (xs : List ℕ)
+    → ((d : List ℕ) (k j : ℕ) → Inv d → Inv (set d (cell k) (rule (cell k) (at d (cell k)) (at xs j))))
+    → (k : ℕ) (d : List ℕ) → Inv d → Inv (stores rule cell xs k d)
+unfolding stores
+stores-keep Inv rule cell [] h k d p = p
+stores-keep Inv rule cell (x ∷ xs) h k d p =
+    stores-keep Inv rule cell xs (λ e m j. h e m (suc j)) (suc k) (set d (cell k) (rule (cell k) (at d (cell k)) x)) (h d k 0 p)
+
+module _ (D : Device) where
+  pub answer-length : (c : List ℕ) (s : Volatile) (k : Command) → length (apply D c s k .report .answer) ≡ answerLength D k
+  unfolding apply
+  answer-length c s powerCycle = refl
+  answer-length c s reset = length-tab _ _
+  answer-length c s (select z) = refl
+  answer-length c s (readZone a n) = length-tab _ n
+  answer-length c s (writeZone a xs) = refl
+  answer-length c s (readConfiguration a n) = length-tab _ n
+  answer-length c s (writeConfiguration a xs) = refl
+  answer-length c s readFuses = refl
+  answer-length c s writeFuses = refl
+  answer-length c s (verifyPassword k xs) = refl
+  answer-length c s beginAuthentication = refl
+  answer-length c s (verifyAuthentication v xs) = refl
+
+  -- a command changes a card by such changes alone: what each of them keeps, the command keeps
+  module _ (Inv : List ℕ → Type 0) (c : List ℕ) (s : Volatile) where
+    pub changes : (k : Command) → ((d : List ℕ) (i v : ℕ) → Inv d → Change D (rules D c) s (carried k) d i v → Inv (set d i v))
+        → Inv c → Inv (apply D c s k .card)
+    unfolding apply
+    changes powerCycle h p = p
+    changes reset h p = p
+    changes (select z) h p = p
+    changes (readZone a n) h p = p
+    changes (writeZone a xs) h p = stores-keep Inv _ _ xs (λ d k j q. h d _ _ q (writes _ j)) 0 c p
+    changes (readConfiguration a n) h p = p
+    changes (writeConfiguration a xs) h p = stores-keep Inv _ _ xs (λ d k j q. h d _ _ q (writes _ j)) 0 c p
+    changes readFuses h p = p
+    changes writeFuses h p = go (D .mayBlow s)
+      where
+        go : (t : Bool) → Inv (cond t (set c (D .fuseAt) (D .blow (at c (D .fuseAt)))) c)
+        go true = h c _ _ p blows
+        go false = p
+    changes (verifyPassword k xs) h p = go (eqb (at c (D .counterAt k)) 0) (sameList xs (password D c k))
+      where
+        go : (l r : Bool) → Inv (presented D l r c s k .card)
+        go true r = p
+        go false true = h c _ _ p (fills (ofPassword k))
+        go false false = h c _ _ p (spends (ofPassword k))
+    changes beginAuthentication h p = go (eqb (at c (D .attemptsAt)) 0)
+      where
+        go : (l : Bool) → Inv (started D l c s .card)
+        go true = p
+        go false = h c _ _ p (spends ofAuthentication)
+    changes (verifyAuthentication v xs) h p = go (isBegun (s .authentication)) v
+      where
+        go : (b v : Bool) → Inv (judged D b v c s xs .card)
+        go false v = p
+        go true true = h _ _ _ (stores-keep Inv (λ i old new. new) (D .cryptogramCell) xs (λ d k j q. h d _ _ q (renews k j)) 0 c p) (fills ofAuthentication)
+        go true false = p
+
+  pub moves : (c : List ℕ) (s : Volatile) (k : Command) → Move D c s k (apply D c s k .report .state)
+  unfolding apply
+  moves c s powerCycle = powers
+  moves c s reset = resets
+  moves c s (select z) = selects
+  moves c s (readZone a n) = stays
+  moves c s (writeZone a xs) = stays
+  moves c s (readConfiguration a n) = stays
+  moves c s (writeConfiguration a xs) = stays
+  moves c s readFuses = stays
+  moves c s writeFuses = stays
+  moves c s (verifyPassword k xs) = go (eqb (at c (D .counterAt k)) 0) (sameList xs (password D c k)) refl
+    where
+      go : (l r : Bool) → sameList xs (password D c k) ≡ r → Move D c s (verifyPassword k xs) (presented D l r c s k .state)
+      go true r e = stays
+      go false true e = opens e
+      go false false e = closes
+  moves c s beginAuthentication = go (eqb (at c (D .attemptsAt)) 0)
+    where
+      go : (l : Bool) → Move D c s beginAuthentication (started D l c s .state)
+      go true = stays
+      go false = begins
+  moves c s (verifyAuthentication v xs) = go (isBegun (s .authentication)) v refl
+    where
+      go : (b v : Bool) → isBegun (s .authentication) ≡ b → Move D c s (verifyAuthentication v xs) (judged D b v c s xs .state)
+      go false v e = stays
+      go true true e = grants e
+      go true false e = denies

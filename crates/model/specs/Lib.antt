@@ -1,0 +1,20 @@
+-- The model of the card, bottom up.
+pub mod Lists
+pub mod Refusal
+pub mod Volatile
+pub mod Command
+pub mod Device
+pub mod Call
+pub mod Apply
+pub mod Bits
+pub mod Access
+pub mod At88sc1608
+pub mod Record
+pub mod Single
+pub mod Tables
+pub mod Reversal
+pub mod Effects
+pub mod CallLaws
+pub mod RecordLaws
+pub mod Sane
+pub mod Cases

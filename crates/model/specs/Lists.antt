@@ -1,0 +1,122 @@
+-- Lists of numbers: cards, records, answers, spaces. What lies past a list's end reads as 0.
+use Prim.Native.Nat.{ℕ, zero, suc, _+_, _≤_, _<_}
+use mathlib.Core.Bool.{Bool, true, false, cond, not, _&&_, _||_, true≢false}
+use mathlib.Core.List.{List, [], _∷_, _++_, append-assoc}
+use mathlib.Core.Logic.{_≢_}
+use mathlib.Core.Path.{_≡_, refl, sym, ap, subst, _∙_}
+use native.Mathlib.Nat.{le-of-suc-le-suc, not-suc-le-zero, le-antisymm}
+use native.Mathlib.Numerals.{add-one}
+use native.Mathlib.Omega.{arith}
+use borrow.Author.Tests.{ltb-true, ltb-false, eqb-true, eqb-false, lt-ltb, le-ltb, eq-eqb, ne-eqb}
+use lib.Dec.{ltb, eqb}
+use lib.ListN.{length, getD, drop, set, length-append, length-set, List·getD-append, List·getD-eq-default, drop-of-length-le}
+use lib.Seq.{getD-set-same, getD-set-other, set-out, getD-append-add, getD-at, set-at, drop-cons}
+
+-- the element at a place
+abbrev pub at : List ℕ → ℕ → ℕ
+at l i = getD l i 0
+
+-- f 0, f 1, .., f (n - 1)
+unfoldable pub tab : (ℕ → ℕ) → ℕ → List ℕ
+tab f zero = []
+tab f (suc n) = tab f n ++ (f n ∷ [])
+
+-- whether two lists are equal
+unfoldable pub sameList : List ℕ → List ℕ → Bool
+sameList [] [] = true
+sameList [] (y ∷ ys) = false
+sameList (x ∷ xs) [] = false
+sameList (x ∷ xs) (y ∷ ys) = eqb x y && sameList xs ys
+
+-- The elements of a list go one after the other into the cells of their numbers, counted from k.
+-- What a cell then holds is for the rule to say, from the cell's place, what it held and what comes.
+unfoldable pub stores : (rule : ℕ → ℕ → ℕ → ℕ) (cell : ℕ → ℕ) → List ℕ → ℕ → List ℕ → List ℕ
+stores rule cell [] k c = c
+stores rule cell (x ∷ xs) k c = stores rule cell xs (suc k) (set c (cell k) (rule (cell k) (at c (cell k)) x))
+
+-- a list of bytes
+abbrev pub Bytes : List ℕ → Type 0
+Bytes l = (i : ℕ) → at l i < 256
+
+-- ---- laws of tests
+
+pub and-left : (a b : Bool) → a && b ≡ true → a ≡ true
+and-left true b e = refl
+and-left false b e = e
+
+pub and-right : (a b : Bool) → a && b ≡ true → b ≡ true
+and-right true b e = e
+and-right false b e = absurd (true≢false (sym e))
+
+-- what holds of both holds of the one that is chosen
+pub choice : (P : ℕ → Type 0) (t : Bool) (x y : ℕ) → P x → P y → P (cond t x y)
+choice P true x y p q = p
+choice P false x y p q = q
+
+-- ---- laws of lists
+
+pub length-tab : (f : ℕ → ℕ) (n : ℕ) → length (tab f n) ≡ n
+unfolding tab
+length-tab f zero = refl
+length-tab f (suc n) = length-append (tab f n) (f n ∷ []) ∙ add-one (length (tab f n)) ∙ ap suc (length-tab f n)
+
+pub tab-cong : (f g : ℕ → ℕ) (n : ℕ) → ((i : ℕ) → i < n → f i ≡ g i) → tab f n ≡ tab g n
+unfolding tab
+tab-cong f g zero e = refl
+tab-cong f g (suc n) e =
+    let here : f n ≡ g n = e n (omega arith) in
+    λ i. tab-cong f g n (λ j h. e j (omega arith)) i ++ (here i ∷ [])
+
+pub at-tab : (f : ℕ → ℕ) (n i : ℕ) → i < n → at (tab f n) i ≡ f i
+unfolding tab
+at-tab f zero i h = absurd (not-suc-le-zero h)
+at-tab f (suc n) i h = go (at-tab f n i) (eqb i n) refl
+  where
+    go : (i < n → at (tab f n) i ≡ f i) → (t : Bool) → eqb i n ≡ t → at (tab f n ++ (f n ∷ [])) i ≡ f i
+    go ih true e =
+        let q : i ≡ n = eqb-true i n e in
+        rw q (getD-at (tab f n) (f n) [] 0 n (length-tab f n))
+    go ih false e =
+        let ne : i ≡ n → ⊥ = eqb-false i n e in
+        let l : i < n = omega arith in
+        List·getD-append (tab f n) (f n ∷ []) 0 i (rw (length-tab f n) l) ∙ ih l
+
+pub at-set : (c : List ℕ) (i v j : ℕ) → at (set c i v) j ≡ cond (eqb j i && ltb i (length c)) v (at c j)
+at-set c i v j = go (eqb j i) (ltb i (length c)) refl refl
+  where
+    go : (e l : Bool) → eqb j i ≡ e → ltb i (length c) ≡ l → at (set c i v) j ≡ cond (e && l) v (at c j)
+    go true true p q = let r : j ≡ i = eqb-true j i p in rw r (getD-set-same c i v 0 (ltb-true _ _ q))
+    go true false p q = rw (set-out c i v (ltb-false _ _ q))
+    go false l p q = getD-set-other c i j v 0 (eqb-false j i p)
+
+-- a place other than the one that is set keeps its element
+pub at-set-other : (c : List ℕ) (i v j : ℕ) → (j ≡ i → ⊥) → at (set c i v) j ≡ at c j
+at-set-other c i v j ne = getD-set-other c i j v 0 ne
+
+-- a place keeps its element also where the new one is the old one
+pub at-set-kept : (c : List ℕ) (i v j : ℕ) → (j ≡ i → v ≡ at c j) → at (set c i v) j ≡ at c j
+at-set-kept c i v j h = at-set c i v j ∙ go (eqb j i && ltb i (length c)) refl
+  where
+    go : (t : Bool) → (eqb j i && ltb i (length c)) ≡ t → cond t v (at c j) ≡ at c j
+    go true e = h (eqb-true j i (and-left _ _ e))
+    go false e = refl
+
+-- what holds of the new element and of the old one at a place holds of the one that is there
+pub at-set-either : (P : ℕ → Type 0) (c : List ℕ) (i v j : ℕ) → P v → P (at c j) → P (at (set c i v) j)
+at-set-either P c i v j p q = rw (at-set c i v j) (choice P (eqb j i && ltb i (length c)) v (at c j) p q)
+
+pub length-stores : (rule : ℕ → ℕ → ℕ → ℕ) (cell : ℕ → ℕ) (xs : List ℕ) (k : ℕ) (c : List ℕ)
+    → length (stores rule cell xs k c) ≡ length c
+unfolding stores
+length-stores rule cell [] k c = refl
+length-stores rule cell (x ∷ xs) k c =
+    length-stores rule cell xs (suc k) (set c (cell k) (rule (cell k) (at c (cell k)) x)) ∙ length-set c (cell k) _
+
+-- a place that is no cell, or whose rule keeps what it holds, keeps its element
+pub at-stores : (rule : ℕ → ℕ → ℕ → ℕ) (cell : ℕ → ℕ) (j : ℕ) → ((k old new : ℕ) → cell k ≡ j → rule j old new ≡ old)
+    → (xs : List ℕ) (k : ℕ) (c : List ℕ) → at (stores rule cell xs k c) j ≡ at c j
+unfolding stores
+at-stores rule cell j keeps [] k c = refl
+at-stores rule cell j keeps (x ∷ xs) k c =
+    at-stores rule cell j keeps xs (suc k) (set c (cell k) (rule (cell k) (at c (cell k)) x))
+    ∙ at-set-kept c (cell k) _ j (λ q. ap (λ (i : ℕ). rule i (at c i) x) (sym q) ∙ keeps k (at c j) x (sym q))

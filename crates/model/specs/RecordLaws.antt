@@ -1,0 +1,103 @@
+-- Laws of the record decoder: what it tells of a record that it accepts.
+use Prim.Native.Nat.{ℕ, zero, suc, _+_, _≤_, _<_}
+use mathlib.Core.Bool.{Bool, true, false, cond, not, _&&_, true≢false}
+use mathlib.Core.List.{List, [], _∷_}
+use mathlib.Core.Path.{_≡_, refl, sym, ap, _∙_}
+use native.Mathlib.Omega.{arith}
+use borrow.Author.Tests.{ltb-true, ltb-false, leb-true, leb-false, eqb-true, eqb-false, not-true, not-false, eq-eqb}
+use lib.Dec.{ltb, leb, eqb}
+use lib.ListN.{length, take, drop, length-take, length-drop}
+use lib.Seq.{length-take-le}
+use Rattle.model.specs.Lists.{at, Bytes, and-left, and-right}
+use Rattle.model.specs.Tables.{each}
+use Rattle.model.specs.Call.{Decoded, refused, whole}
+use Rattle.model.specs.CallLaws.{past}
+use Rattle.model.specs.Command.{Command, powerCycle, reset, select, readZone, writeZone, readConfiguration, writeConfiguration, readFuses, writeFuses, verifyPassword, beginAuthentication, verifyAuthentication}
+use Rattle.model.specs.Record.{known, fixedFields, inRange, dataLength, made, dataAt, recordLength, decode}
+
+-- the data of a record
+abbrev pub dataOf : List ℕ → List ℕ
+dataOf part = take (dataLength (at part 0) (at part 2)) (drop (dataAt part) part)
+
+-- a record that is accepted
+pub record Accepted (part : List ℕ) (k : Command) (n : ℕ) : Type 0 where
+  pub kind : known (at part 0) ≡ true
+  pub fields : inRange (at part 0) (at part 1) (at part 2) ≡ true
+  pub within : recordLength part ≤ length part
+  pub command : made (at part 0) (at part 1) (at part 2) (dataOf part) ≡ k
+  pub length : recordLength part ≡ n
+
+pub accepted : (part : List ℕ) (k : Command) (n : ℕ) → decode part ≡ whole k n → Accepted part k n
+unfolding decode
+accepted part k n e =
+    let p₁ = past (eqb (length part) 0) _ _ k n e in
+    let p₂ = past (not (known (at part 0))) _ _ k n (p₁ .1) in
+    let p₃ = past (ltb (length part) (dataAt part)) _ _ k n (p₂ .1) in
+    let p₄ = past (not (inRange (at part 0) (at part 1) (at part 2))) _ _ k n (p₃ .1) in
+    let p₅ = past (ltb (length part) (recordLength part)) _ _ k n (p₄ .1) in
+    let q = p₅ .1 in
+    record {
+      kind = not-false _ (p₂ .0);
+      fields = not-false _ (p₄ .0);
+      within = ltb-false (length part) (recordLength part) (p₅ .0);
+      command = cc;
+      length = cc;
+    }
+
+-- the length of an accepted record lies within the part, and is not 0
+pub decode-within : (part : List ℕ) (k : Command) (n : ℕ) → decode part ≡ whole k n → (1 ≤ n) × (n ≤ length part)
+decode-within part k n e = let a = accepted part k n e in omega arith
+
+pub length-data : (part : List ℕ) (k : Command) (n : ℕ) → Accepted part k n → length (dataOf part) ≡ dataLength (at part 0) (at part 2)
+length-data part k n a =
+    length-take-le _ (drop (dataAt part) part) (let w = a .within in simp length-drop (omega arith))
+
+-- the fields of a command in the ranges that the decoder tests
+abbrev pub Fields : Command → Type 0
+Fields powerCycle = Unit {0}
+Fields reset = Unit {0}
+Fields (select z) = z < 8
+Fields (readZone a n) = 1 ≤ n
+Fields (writeZone a xs) = (1 ≤ length xs) × (length xs ≤ 16)
+Fields (readConfiguration a n) = (1 ≤ n) × (a + n ≤ 128)
+Fields (writeConfiguration a xs) = (a < 128) × (1 ≤ length xs) × (length xs ≤ 16)
+Fields readFuses = Unit {0}
+Fields writeFuses = Unit {0}
+Fields (verifyPassword k xs) = (k < 16) × (length xs ≡ 3)
+Fields beginAuthentication = Unit {0}
+Fields (verifyAuthentication v xs) = length xs ≡ 8
+
+-- what holds at each of the twelve kinds holds at every known kind
+pub each-kind : (P : ℕ → Type 0) → P 1 → P 2 → P 3 → P 4 → P 5 → P 6 → P 7 → P 8 → P 9 → P 10 → P 11 → P 12
+    → (kind : ℕ) → known kind ≡ true → P kind
+each-kind P p₁ p₂ p₃ p₄ p₅ p₆ p₇ p₈ p₉ p₁₀ p₁₁ p₁₂ kind w =
+    each P 1 12 (p₁, (p₂, (p₃, (p₄, (p₅, (p₆, (p₇, (p₈, (p₉, (p₁₀, (p₁₁, (p₁₂, tt)))))))))))) kind
+    (let z : kind ≡ 0 → ⊥ = eqb-false kind 0 (not-true _ (and-left (not (eqb kind 0)) (leb kind 12) w)) in omega arith)
+    (let z : kind ≤ 12 = leb-true kind 12 (and-right (not (eqb kind 0)) (leb kind 12) w) in omega arith)
+
+module _ (a n : ℕ) (xs : List ℕ) where
+  read-count : (t : Bool) → eqb n 0 ≡ t → 1 ≤ cond t 256 n
+  read-count true e = omega arith
+  read-count false e = let h : n ≡ 0 → ⊥ = eqb-false n 0 e in omega arith
+
+  made-fields : (kind : ℕ) → known kind ≡ true → inRange kind a n ≡ true → length xs ≡ dataLength kind n → Fields (made kind a n xs)
+  unfolding inRange dataLength made
+  made-fields =
+      each-kind (λ kind. inRange kind a n ≡ true → length xs ≡ dataLength kind n → Fields (made kind a n xs))
+      (λ r l. tt)
+      (λ r l. tt)
+      (λ r l. omega (arith, leb-true a 7 r))
+      (λ r l. read-count (eqb n 0) refl)
+      (λ r l. omega (arith, leb-true 1 n (and-left (leb 1 n) _ r), leb-true n 16 (and-right (leb 1 n) _ r)))
+      (λ r l. omega (arith, leb-true 1 n (and-left (leb 1 n) _ (and-right (leb a 127) _ r)), leb-true (a + n) 128 (and-right (leb 1 n) _ (and-right (leb a 127) _ r))))
+      (λ r l. omega (arith, leb-true a 127 (and-left (leb a 127) _ r), leb-true 1 n (and-left (leb 1 n) _ (and-right (leb a 127) _ r)), leb-true n 16 (and-right (leb 1 n) _ (and-right (leb a 127) _ r))))
+      (λ r l. tt)
+      (λ r l. tt)
+      (λ r l. (omega (arith, leb-true a 15 r), l))
+      (λ r l. tt)
+      (λ r l. l)
+
+pub decode-fields : (part : List ℕ) (k : Command) (n : ℕ) → decode part ≡ whole k n → Fields k
+decode-fields part k n e =
+    let a = accepted part k n e in
+    rw (a .command) at (made-fields (at part 1) (at part 2) (dataOf part) (at part 0) (a .kind) (a .fields) (length-data part k n a))

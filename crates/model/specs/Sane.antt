@@ -1,0 +1,187 @@
+-- What every command keeps of a card and its volatile state, for any device that meets a few laws, and for the AT88SC1608:
+-- lengths, bytes, a valid fuse byte, a state in range. So 11, 5 and 12 never arise after the first call.
+use Prim.Native.Nat.{ℕ, suc, _≤_, _<_, _/_}
+use mathlib.Core.Bool.{Bool, true, false, cond, not, _&&_, _||_}
+use mathlib.Core.List.{List, [], _∷_}
+use mathlib.Core.Path.{_≡_, refl, sym, ap, _∙_}
+use native.Mathlib.Omega.{arith}
+use borrow.Author.Tests.{ltb-true, ltb-false, eqb-true, not-false, lt-ltb, le-ltb, eq-eqb}
+use lib.Bits.{bitAnd, and-le-l}
+use lib.Dec.{ltb, eqb}
+use lib.ListN.{length, set, length-set}
+use Rattle.model.specs.Lists.{choice, at, Bytes, at-set-other, at-set-kept, at-set-either, and-left, and-right}
+use Rattle.model.specs.Tables.{everyBelow, passes-at}
+use Rattle.model.specs.Bits.{spentCounter}
+use Rattle.model.specs.Volatile.{Volatile, Active, none, selector}
+use Rattle.model.specs.Command.{Command, powerCycle, reset, select, readZone, writeZone, readConfiguration, writeConfiguration, readFuses, writeFuses, verifyPassword, beginAuthentication, verifyAuthentication}
+use Rattle.model.specs.Device.{Device}
+use Rattle.model.specs.Call.{Powered, Call, whole}
+use Rattle.model.specs.CallLaws.{list-keeps}
+use Rattle.model.specs.Access.{pgo}
+use Rattle.model.specs.At88sc1608.{at88sc1608, fuses, registerOf, mayWrite, merge, blow}
+use Rattle.model.specs.Apply.{fullCounter, rules, kept}
+use Rattle.model.specs.Apply as any
+use Rattle.model.specs.Record.{decode}
+use Rattle.model.specs.RecordLaws.{Fields, decode-fields}
+use Rattle.model.specs.Single.{isFuseByte, activeBelow, stateInRange, checkOf, check, apply, final}
+use Rattle.model.specs.Effects.{Counter, ofPassword, ofAuthentication, counterPlace, carried, Change, writes, fills, spends, renews, blows, changes, Move, stays, powers, resets, selects, opens, closes, begins, grants, denies, moves}
+
+-- Laws of a device: what it computes of bytes are bytes, and its fuse byte is moved by write fuses alone, from stage to stage.
+pub record Sound (D : Device) : Type 0 where
+  pub merge-byte : (ρ : List ℕ) (i old new : ℕ) → old < 256 → new < 256 → D .merge ρ i old new < 256
+  pub spend-byte : (x : ℕ) → x < 256 → D .spend x < 256
+  pub blow-byte : (x : ℕ) → x < 256 → D .blow x < 256
+  pub blow-stage : (x : ℕ) → isFuseByte x ≡ true → isFuseByte (D .blow x) ≡ true
+  pub fuse-shut : (ρ : List ℕ) (s : Volatile) → D .mayWrite ρ s (D .fuseAt) ≡ false
+  pub fuse-counter : (n : Counter) → D .fuseAt ≡ counterPlace D n → ⊥
+  pub fuse-cryptogram : (k : ℕ) → D .fuseAt ≡ D .cryptogramCell k → ⊥
+  pub has-zone : 0 < D .zones
+
+module _ (D : Device) where
+  -- a card keeps its length
+  pub card-length : (c : List ℕ) (s : Volatile) (k : Command) → length (any.apply D c s k .card) ≡ length c
+  card-length c s k = changes D (λ d. length d ≡ length c) c s k (λ d i v p w. length-set d i v ∙ p) refl
+
+  -- the places that a command may write: those that access lets through, counters, cryptogram, fuses
+  pub record Untouched (ρ : List ℕ) (s : Volatile) (j : ℕ) : Type 0 where
+    pub shut : D .mayWrite ρ s j ≡ false
+    pub counters : (n : Counter) → j ≡ counterPlace D n → ⊥
+    pub cryptogram : (k : ℕ) → j ≡ D .cryptogramCell k → ⊥
+
+  -- every other place keeps its byte; the fuse byte too, where a step would not move it
+  pub keeps : (c : List ℕ) (s : Volatile) (k : Command) (j : ℕ) → Untouched (rules D c) s j
+      → (j ≡ D .fuseAt → D .blow (at c j) ≡ at c j) → at (any.apply D c s k .card) j ≡ at c j
+  keeps c s k j u f = changes D (λ d. at d j ≡ at c j) c s k (λ d i v p w. go d i v p w) refl
+    where
+      go : (d : List ℕ) (i v : ℕ) → at d j ≡ at c j → Change D (rules D c) s (carried k) d i v → at (set d i v) j ≡ at c j
+      go d i v p (writes i′ m) =
+          at-set-kept d i _ j (λ q. ap (λ (n : ℕ). kept D (rules D c) s n (at d n) (at (carried k) m)) (sym q) ∙ rw (u .shut)) ∙ p
+      go d i v p (fills n) = at-set-other d _ _ j (u .counters n) ∙ p
+      go d i v p (spends n) = at-set-other d _ _ j (u .counters n) ∙ p
+      go d i v p (renews n m) = at-set-other d _ _ j (u .cryptogram n) ∙ p
+      go d i v p blows = at-set-kept d _ _ j (λ q. ap (λ (n : ℕ). D .blow (at d n)) (sym q) ∙ ap (D .blow) p ∙ f q ∙ sym p) ∙ p
+
+  module _ (sound : Sound D) where
+    -- its bytes stay bytes
+    pub card-bytes : (c : List ℕ) (s : Volatile) (k : Command) → Bytes c → Bytes (carried k) → Bytes (any.apply D c s k .card)
+    card-bytes c s k hc hk = changes D Bytes c s k (λ d i v p w j. at-set-either (λ x. x < 256) d i v j (go d i v p w) (p j)) hc
+      where
+        go : (d : List ℕ) (i v : ℕ) → Bytes d → Change D (rules D c) s (carried k) d i v → v < 256
+        go d i v p (writes i′ m) = choice (λ x. x < 256) (D .mayWrite (rules D c) s i) _ _ (sound .merge-byte (rules D c) i (at d i) (at (carried k) m) (p i) (hk m)) (p i)
+        go d i v p (fills n) = omega arith
+        go d i v p (spends n) = sound .spend-byte _ (p _)
+        go d i v p (renews n m) = hk m
+        go d i v p blows = sound .blow-byte _ (p _)
+
+    -- its fuse byte stays 7, 6, 4 or 0
+    pub card-fuses : (c : List ℕ) (s : Volatile) (k : Command) → isFuseByte (at c (D .fuseAt)) ≡ true
+        → isFuseByte (at (any.apply D c s k .card) (D .fuseAt)) ≡ true
+    card-fuses c s k h = changes D (λ d. isFuseByte (at d (D .fuseAt)) ≡ true) c s k go h
+      where
+        stays-fuse : (d : List ℕ) (i v : ℕ) → isFuseByte (at d (D .fuseAt)) ≡ true → at (set d i v) (D .fuseAt) ≡ at d (D .fuseAt)
+            → isFuseByte (at (set d i v) (D .fuseAt)) ≡ true
+        stays-fuse d i v p e = ap isFuseByte e ∙ p
+
+        go : (d : List ℕ) (i v : ℕ) → isFuseByte (at d (D .fuseAt)) ≡ true → Change D (rules D c) s (carried k) d i v
+            → isFuseByte (at (set d i v) (D .fuseAt)) ≡ true
+        go d i v p (writes i′ m) =
+            stays-fuse d i _ p
+            (at-set-kept d i _ (D .fuseAt)
+            (λ q. ap (λ (n : ℕ). kept D (rules D c) s n (at d n) (at (carried k) m)) (sym q) ∙ rw (sound .fuse-shut (rules D c) s)))
+        go d i v p (fills n) = stays-fuse d _ _ p (at-set-other d _ _ _ (sound .fuse-counter n))
+        go d i v p (spends n) = stays-fuse d _ _ p (at-set-other d _ _ _ (sound .fuse-counter n))
+        go d i v p (renews n m) = stays-fuse d _ _ p (at-set-other d _ _ _ (sound .fuse-cryptogram n))
+        go d i v p blows = at-set-either (λ x. isFuseByte x ≡ true) d _ _ _ (sound .blow-stage _ p) p
+
+    -- the state stays in range, where the zones and selectors of commands are
+    pub state-range : (Q : Command → Type 0) → ((z : ℕ) → Q (select z) → z < D .zones) → ((j : ℕ) (xs : List ℕ) → Q (verifyPassword j xs) → j < D .selectors)
+        → (c : List ℕ) (s : Volatile) (k : Command) → Q k → stateInRange D s ≡ true → stateInRange D (any.apply D c s k .report .state) ≡ true
+    state-range Q zone-fits selector-fits c s k q h = go k (any.apply D c s k .report .state) q (moves D c s k)
+      where
+        zone-in : ltb (s .zone) (D .zones) ≡ true
+        zone-in = and-left _ _ h
+
+        go : (k : Command) (t : Volatile) → Q k → Move D c s k t → stateInRange D t ≡ true
+        go k t f stays = h
+        go k t f powers = rw (lt-ltb 0 (D .zones) (sound .has-zone))
+        go k t f resets = rw zone-in
+        go k t f selects = rw (lt-ltb _ _ (zone-fits _ f)) (and-right (ltb (s .zone) (D .zones)) _ h)
+        go k t f (opens e) = rw (zone-in, lt-ltb _ _ (selector-fits _ _ f))
+        go k t f closes = rw zone-in
+        go k t f begins = h
+        go k t f (grants e) = h
+        go k t f denies = h
+
+-- ---- the AT88SC1608
+
+merge-byte : (ρ : List ℕ) (i old new : ℕ) → old < 256 → new < 256 → merge ρ i old new < 256
+unfolding merge
+merge-byte ρ i old new o n =
+    choice (λ x. x < 256) (ltb i 2048) _ new
+    (choice (λ x. x < 256) (not (eqb (fuses ρ) 7) && pgo (registerOf ρ (i / 256))) (bitAnd old new) new
+    (let h : bitAnd old new ≤ old = and-le-l old new in omega arith) n) n
+
+spend-byte : (x : ℕ) → x < 256 → spentCounter x < 256
+unfolding spentCounter
+spend-byte x h = ltb-true (spentCounter x) 256 (passes-at (λ v. ltb (spentCounter v) 256) 256 refl x h)
+
+blow-byte : (x : ℕ) → x < 256 → blow x < 256
+unfolding blow
+blow-byte x h = ltb-true (blow x) 256 (passes-at (λ v. ltb (blow v) 256) 256 refl x h)
+
+blow-stage : (x : ℕ) → isFuseByte x ≡ true → isFuseByte (blow x) ≡ true
+unfolding blow
+blow-stage x h = choice (λ f. isFuseByte f ≡ true) (eqb x 7) 6 _ refl (choice (λ f. isFuseByte f ≡ true) (eqb x 6) 4 0 refl refl)
+
+fuse-shut : (ρ : List ℕ) (s : Volatile) → mayWrite ρ s 2176 ≡ false
+unfolding mayWrite
+fuse-shut ρ s = refl
+
+fuse-counter : (n : Counter) → 2176 ≡ counterPlace at88sc1608 n → ⊥
+fuse-counter (ofPassword k) = λ e. omega arith
+fuse-counter ofAuthentication = λ e. omega arith
+
+pub sound : Sound at88sc1608
+sound =
+    record {
+      merge-byte = merge-byte;
+      spend-byte = spend-byte;
+      blow-byte = blow-byte;
+      blow-stage = blow-stage;
+      fuse-shut = fuse-shut;
+      fuse-counter = fuse-counter;
+      fuse-cryptogram = λ k e. omega arith;
+      has-zone = omega arith;
+    }
+
+-- a card and a state that pass the checks
+pub record Good (c : List ℕ) (s : Volatile) : Type 0 where
+  pub long : length c ≡ 2177
+  pub stage : isFuseByte (at c 2176) ≡ true
+  pub range : stateInRange at88sc1608 s ≡ true
+
+pub check-good : (c : List ℕ) (s : Volatile) → Good c s → check c s ≡ 0
+unfolding checkOf
+check-good c s g = rw (eq-eqb _ _ (g .long), g .stage, g .range)
+
+past : (t : Bool) (r d : ℕ) → cond t (suc r) d ≡ 0 → (t ≡ false) × (d ≡ 0)
+past true r d e = absurd (let z : ⊥ = omega arith in z)
+past false r d e = (refl, e)
+
+pub good-check : (c : List ℕ) (s : Volatile) → check c s ≡ 0 → Good c s
+unfolding checkOf
+good-check c s e =
+    let p₁ = past (not (eqb (length c) 2177)) 10 _ e in
+    let p₂ = past (not (isFuseByte (at c 2176))) 4 _ (p₁ .1) in
+    let p₃ = past (not (stateInRange at88sc1608 s)) 11 0 (p₂ .1) in
+    record { long = eqb-true _ _ (not-false _ (p₁ .0)); stage = not-false _ (p₂ .0); range = not-false _ (p₃ .0) }
+
+-- every list of calls, of any bytes and lengths, leaves a good card and state good
+pub stays-good : (xs : List Call) (m : Powered Volatile) → Good (m .card) (m .state) → Good (final xs m .card) (final xs m .state)
+stays-good =
+    list-keeps check decode apply Good
+    (λ c s k part n e g. record {
+      long = card-length at88sc1608 c s k ∙ g .long;
+      stage = card-fuses at88sc1608 sound c s k (g .stage);
+      range = state-range at88sc1608 sound Fields (λ z f. f) (λ j xs f. f .0) c s k (decode-fields part k n e) (g .range);
+    })
