@@ -44,7 +44,7 @@ met needed given = not needed || given
 abbrev pub zoneReads : ℕ → Volatile → Bool
 zoneReads r s =
     met (ate r) (isGranted (s .authentication))
-    && met (rpe r) (isActive (s .active) (passwordSet r) || isActive (s .active) (passwordSet r + 8))
+    && met (rpe r) (isActive (s .active) (passwordSet r) || isActive (s .active) (8 + passwordSet r))
 
 -- for F below 7: authentication, the write password of the set where WPE is enabled or F is not 0, and never with MDF
 abbrev pub zoneWrites : ℕ → ℕ → Volatile → Bool

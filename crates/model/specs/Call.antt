@@ -20,13 +20,16 @@ pub record Report (S : Type 0) : Type 0 where
   pub state : S
   pub answer : List ℕ
 
+abbrev pub reporting : {S : Type 0} → S → List ℕ → Report S
+reporting s answer = record { state = s; answer = answer }
+
 -- what an act leaves
 pub record Acted (S : Type 0) : Type 0 where
   pub card : List ℕ
   pub report : Report S
 
 abbrev pub acted : {S : Type 0} → List ℕ → S → List ℕ → Acted S
-acted c s answer = record { card = c; report = record { state = s; answer = answer } }
+acted c s answer = record { card = c; report = reporting s answer }
 
 -- an act with no answer
 abbrev pub silent : {S : Type 0} → Powered S → Acted S

@@ -5,16 +5,13 @@ use mathlib.Core.Bool.{Bool, cond}
 use mathlib.Core.List.{List, [], _∷_, _++_, map}
 use mathlib.Core.Path.{_≡_, refl}
 use lib.ListN.{getD, set, replicate}
-use Rattle.model.specs.Lists.{at, tab, sameList, stores}
-use Rattle.model.specs.Bits.{reversed, spentCounter}
+use Rattle.model.specs.Lists.{at}
 use Rattle.model.specs.Volatile.{Volatile, Active, none, selector, powerUp}
 use Rattle.model.specs.Call.{Call, Powered}
-use Rattle.model.specs.Call as calls
-use Rattle.model.specs.Access.{wpe, rpe, ate, passwordSet, mdf, pgo, permissions, areaOf, stageOf, permission, permits}
-use Rattle.model.specs.At88sc1608.{fuseAt, registerAt, counterAt, configurationAt, mayRead, mayWrite, merge, blow}
-use Rattle.model.specs.Apply as any
-use Rattle.model.specs.Record.{fixedFields, inRange, dataLength, made, decode}
-use Rattle.model.specs.Single.{checkOf, replies, final}
+use Rattle.model.specs.Access.{wpe, rpe, ate, passwordSet, mdf, pgo}
+use Rattle.model.specs.At88sc1608.{registerAt, counterAt, configurationAt}
+use Rattle.model.specs.Single.{replies, final}
+use Rattle.model.specs.Computed.{computed}
 
 -- a card of $FF bytes with the fuse byte f
 abbrev blank : ℕ → List ℕ
@@ -106,5 +103,5 @@ cases =
     ∷ []
 
 pub cases-hold : map (λ (r : Case). r .0) cases ≡ map (λ (r : Case). r .1) cases
-unfolding cases calls.replies calls.final calls.command calls.admit checkOf decode fixedFields inRange dataLength made any.apply tab sameList stores mayRead mayWrite merge permissions areaOf stageOf permission permits reversed spentCounter blow
+unfolding cases computed
 cases-hold = refl

@@ -17,4 +17,5 @@ pub mod Effects
 pub mod CallLaws
 pub mod RecordLaws
 pub mod Sane
+pub mod Computed
 pub mod Cases

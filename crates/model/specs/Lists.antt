@@ -48,6 +48,10 @@ pub and-right : (a b : Bool) → a && b ≡ true → b ≡ true
 and-right true b e = e
 and-right false b e = absurd (true≢false (sym e))
 
+pub and-false : (a : Bool) → a && false ≡ false
+and-false true = refl
+and-false false = refl
+
 -- what holds of both holds of the one that is chosen
 pub choice : (P : ℕ → Type 0) (t : Bool) (x y : ℕ) → P x → P y → P (cond t x y)
 choice P true x y p q = p
@@ -104,6 +108,28 @@ at-set-kept c i v j h = at-set c i v j ∙ go (eqb j i && ltb i (length c)) refl
 -- what holds of the new element and of the old one at a place holds of the one that is there
 pub at-set-either : (P : ℕ → Type 0) (c : List ℕ) (i v j : ℕ) → P v → P (at c j) → P (at (set c i v) j)
 at-set-either P c i v j p q = rw (at-set c i v j) (choice P (eqb j i && ltb i (length c)) v (at c j) p q)
+
+pub sameList-true : (xs ys : List ℕ) → sameList xs ys ≡ true → xs ≡ ys
+unfolding sameList
+sameList-true [] [] e = refl
+sameList-true [] (y ∷ ys) e = absurd (true≢false (sym e))
+sameList-true (x ∷ xs) [] e = absurd (true≢false (sym e))
+sameList-true (x ∷ xs) (y ∷ ys) e =
+    let p = eqb-true x y (and-left (eqb x y) _ e) in
+    let q = sameList-true xs ys (and-right (eqb x y) _ e) in
+    λ i. p i ∷ q i
+
+pub sameList-refl : (xs : List ℕ) → sameList xs xs ≡ true
+unfolding sameList
+sameList-refl [] = refl
+sameList-refl (x ∷ xs) = rw (eq-eqb x x refl) (sameList-refl xs)
+
+pub sameList-false : (xs ys : List ℕ) → (xs ≡ ys → ⊥) → sameList xs ys ≡ false
+sameList-false xs ys ne = go (sameList xs ys) refl
+  where
+    go : (t : Bool) → sameList xs ys ≡ t → t ≡ false
+    go true e = absurd (ne (sameList-true xs ys e))
+    go false e = refl
 
 pub length-stores : (rule : ℕ → ℕ → ℕ → ℕ) (cell : ℕ → ℕ) (xs : List ℕ) (k : ℕ) (c : List ℕ)
     → length (stores rule cell xs k c) ≡ length c

@@ -133,11 +133,11 @@ blow-stage : (x : ℕ) → isFuseByte x ≡ true → isFuseByte (blow x) ≡ tru
 unfolding blow
 blow-stage x h = choice (λ f. isFuseByte f ≡ true) (eqb x 7) 6 _ refl (choice (λ f. isFuseByte f ≡ true) (eqb x 6) 4 0 refl refl)
 
-fuse-shut : (ρ : List ℕ) (s : Volatile) → mayWrite ρ s 2176 ≡ false
+pub fuse-shut : (ρ : List ℕ) (s : Volatile) → mayWrite ρ s 2176 ≡ false
 unfolding mayWrite
 fuse-shut ρ s = refl
 
-fuse-counter : (n : Counter) → 2176 ≡ counterPlace at88sc1608 n → ⊥
+pub fuse-counter : (n : Counter) → 2176 ≡ counterPlace at88sc1608 n → ⊥
 fuse-counter (ofPassword k) = λ e. omega arith
 fuse-counter ofAuthentication = λ e. omega arith
 

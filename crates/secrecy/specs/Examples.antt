@@ -1,0 +1,216 @@
+-- The claims of demand 3 are not empty: for each, two different sealed cards and a list of calls that meets its conditions and
+-- is not told apart; and a list that breaks the condition and tells the cards apart. All of it is computed.
+use Prim.Native.Nat.{ℕ, _%_}
+use mathlib.Core.Bool.{Bool, true, false, not, _&&_, _||_, true≢false}
+use mathlib.Core.List.{List, [], _∷_, _++_, map}
+use mathlib.Core.Path.{_≡_, refl, sym, ap, _∙_}
+use native.Mathlib.Omega.{arith}
+use borrow.Author.Tests.{eq-eqb, not-true}
+use lib.Dec.{eqb}
+use lib.ListN.{getD, set, replicate, length-set}
+use Rattle.model.specs.Lists.{at, sameList, sameList-refl, at-set-other, and-left, and-right}
+use Rattle.model.specs.Volatile.{Volatile, powerUp}
+use Rattle.model.specs.Command.{Command, powerCycle, reset, select, readZone, writeZone, readConfiguration, writeConfiguration, readFuses, writeFuses, verifyPassword, beginAuthentication, verifyAuthentication}
+use Rattle.model.specs.Call.{Call, Decoded, refused, whole, Powered, powered, Reply}
+use Rattle.model.specs.Call as calls
+use Rattle.model.specs.At88sc1608.{registerAt, passwordByte}
+use Rattle.model.specs.Record.{decode}
+use Rattle.model.specs.Computed.{computed}
+use Rattle.model.specs.Single.{check, apply, admit, replies, final}
+use Rattle.secrecy.specs.Agree.{AgreeOutside}
+use Rattle.secrecy.specs.TwoRuns.{Along}
+use Rattle.secrecy.specs.Secret.{password, inZone, inZoneOrPasswords, PresentsNeither, AcceptsNot, Indistinguishable}
+use Rattle.secrecy.specs.Demand3.{read-password, authentication-demanded}
+
+-- ---- the conditions as tests
+
+abbrev presentsNeither : ℕ → List ℕ → List ℕ → Command → Bool
+presentsNeither p b₁ b₂ powerCycle = true
+presentsNeither p b₁ b₂ reset = true
+presentsNeither p b₁ b₂ (select z) = true
+presentsNeither p b₁ b₂ (readZone a n) = true
+presentsNeither p b₁ b₂ (writeZone a xs) = true
+presentsNeither p b₁ b₂ (readConfiguration a n) = true
+presentsNeither p b₁ b₂ (writeConfiguration a xs) = true
+presentsNeither p b₁ b₂ readFuses = true
+presentsNeither p b₁ b₂ writeFuses = true
+presentsNeither p b₁ b₂ (verifyPassword j xs) = not (eqb (j % 8) p) || (not (sameList xs (password b₁ j)) && not (sameList xs (password b₂ j)))
+presentsNeither p b₁ b₂ beginAuthentication = true
+presentsNeither p b₁ b₂ (verifyAuthentication v xs) = true
+
+abbrev acceptsNot : Command → Bool
+acceptsNot powerCycle = true
+acceptsNot reset = true
+acceptsNot (select z) = true
+acceptsNot (readZone a n) = true
+acceptsNot (writeZone a xs) = true
+acceptsNot (readConfiguration a n) = true
+acceptsNot (writeConfiguration a xs) = true
+acceptsNot readFuses = true
+acceptsNot writeFuses = true
+acceptsNot (verifyPassword j xs) = true
+acceptsNot beginAuthentication = true
+acceptsNot (verifyAuthentication v xs) = not v
+
+unequal : (xs ys : List ℕ) → not (sameList xs ys) ≡ true → xs ≡ ys → ⊥
+unequal xs ys e q = true≢false (sym (sameList-refl xs) ∙ ap (sameList xs) q ∙ not-true (sameList xs ys) e)
+
+presents-neither : (p : ℕ) (b₁ b₂ : List ℕ) (k : Command) → presentsNeither p b₁ b₂ k ≡ true → PresentsNeither p b₁ b₂ k
+presents-neither p b₁ b₂ k t j xs e q =
+    let w : (not (sameList xs (password b₁ j)) && not (sameList xs (password b₂ j))) ≡ true =
+    rw (eq-eqb (j % 8) p q) at (rw e at t) in
+    (unequal xs (password b₁ j) (and-left _ _ w), unequal xs (password b₂ j) (and-right (not (sameList xs (password b₁ j))) _ w))
+
+accepts-not : (k : Command) → acceptsNot k ≡ true → AcceptsNot k
+accepts-not k t xs e = true≢false (sym (rw e at t))
+
+-- a test passes at every call of a list that is not refused
+abbrev passes : (Command → Bool) → Decoded Command → Bool
+passes test (refused n) = true
+passes test (whole k n) = test k
+
+abbrev throughout : (Command → Bool) → List Call → Powered Volatile → Bool
+throughout test [] m = true
+throughout test (x ∷ xs) m = passes test (admit (m .card) (m .state) x) && throughout test xs (calls.step check decode apply m x)
+
+along : (test : Command → Bool) (Ok : Command → Type 0) → ((k : Command) → test k ≡ true → Ok k)
+    → (xs : List Call) (m : Powered Volatile) → throughout test xs m ≡ true → Along check decode apply (λ c s k. Ok k) xs m
+unfolding Along
+along test Ok h [] m t = tt
+along test Ok h (x ∷ xs) m t =
+    let p = passes test (admit (m .card) (m .state) x) in
+    ((λ k n e. h k (rw e at (and-left p _ t))), along test Ok h xs (calls.step check decode apply m x) (and-right p _ t))
+
+-- ---- cards and calls
+
+-- a sealed card of $FF bytes
+abbrev blank : List ℕ
+blank = replicate 2176 0xFF ++ (0 ∷ [])
+
+abbrev call : List ℕ → ℕ → Call
+call bytes room = record { sent = bytes; space = replicate room 0x99 }
+
+-- a card and the same card with another byte at a hidden place
+agree-set : (hidden : ℕ → Bool) (b c : List ℕ) (i v : ℕ) → AgreeOutside hidden b c → hidden i ≡ true → AgreeOutside hidden b (set c i v)
+agree-set hidden b c i v h t =
+    record {
+      long = h .long ∙ sym (length-set c i v);
+      same = λ j o. h .same j o ∙ sym (at-set-other c i v j (λ q. true≢false (sym t ∙ ap hidden (sym q) ∙ o)));
+    }
+
+agree-self : (hidden : ℕ → Bool) (b : List ℕ) → AgreeOutside hidden b b
+agree-self hidden b = record { long = refl; same = λ j o. refl }
+
+-- what is computed of a run: the refusals, the first byte of a response space, a byte of the final card
+abbrev pub refusals : List Call → List ℕ → List ℕ
+refusals xs b = map (λ r. r .refusal) (replies xs (powered b powerUp))
+
+abbrev answered : ℕ → List (Reply Volatile) → ℕ
+answered n rs = at (getD (map (λ r. r .space) rs) n []) 0
+
+abbrev pub finalByte : ℕ → List Call → List ℕ → ℕ
+finalByte i xs b = at (final xs (powered b powerUp) .card) i
+
+-- ---- the read password
+
+-- zone 2 demands the read password of set 3 (RPE and PGO enabled, $AE); the other card has another byte in the zone, and
+-- another write password of set 3
+abbrev readCard : List ℕ
+readCard = set (set blank (registerAt 2) 0xAE) 512 0x11
+
+abbrev readCard′ : List ℕ
+readCard′ = set (set readCard 512 0x22) (passwordByte 3 0) 0x77
+
+-- Select zone 2, read it, write into it, read it again; select 8 (refused with 7); the right write password with a byte too
+-- much (refused with 9, so not presented); a wrong one; the read password of another set; read the passwords of set 3; a read
+-- with no space for it (refused with 10).
+abbrev readCalls : List Call
+readCalls =
+    call (3 ∷ 2 ∷ []) 0
+    ∷ call (4 ∷ 0 ∷ 2 ∷ []) 4
+    ∷ call (5 ∷ 0 ∷ 1 ∷ 0x33 ∷ []) 0
+    ∷ call (4 ∷ 0 ∷ 2 ∷ []) 2
+    ∷ call (3 ∷ 8 ∷ []) 1
+    ∷ call (10 ∷ 3 ∷ 0xFF ∷ 0xFF ∷ 0xFF ∷ 0 ∷ []) 1
+    ∷ call (10 ∷ 3 ∷ 1 ∷ 2 ∷ 3 ∷ []) 1
+    ∷ call (10 ∷ 12 ∷ 0xFF ∷ 0xFF ∷ 0xFF ∷ []) 1
+    ∷ call (4 ∷ 0 ∷ 1 ∷ []) 1
+    ∷ call (6 ∷ 0x58 ∷ 8 ∷ []) 8
+    ∷ call (4 ∷ 0 ∷ 2 ∷ []) 1
+    ∷ []
+
+read-clean : throughout (presentsNeither 3 readCard readCard′) readCalls (powered readCard powerUp) ≡ true
+unfolding computed
+read-clean = refl
+
+-- the cards are not told apart, three of the calls are refused, and the secret byte differs to the end
+pub read-example : Indistinguishable (inZoneOrPasswords 2 3) readCalls readCard readCard′
+read-example =
+    read-password 2 (omega arith) readCard readCard′ (record { long = refl; blown = refl }) (record { long = refl; blown = refl }) refl
+    (agree-set _ readCard _ (passwordByte 3 0) 0x77 (agree-set _ readCard readCard 512 0x22 (agree-self _ readCard) refl) refl)
+    readCalls (along (presentsNeither 3 readCard readCard′) (PresentsNeither 3 readCard readCard′) (presents-neither 3 readCard readCard′) readCalls (powered readCard powerUp) read-clean)
+
+pub read-refusals : refusals readCalls readCard ≡ 0 ∷ 0 ∷ 0 ∷ 0 ∷ 7 ∷ 9 ∷ 0 ∷ 0 ∷ 0 ∷ 0 ∷ 10 ∷ []
+unfolding computed
+read-refusals = refl
+
+pub read-differs : (finalByte 512 readCalls readCard ≡ 0x11) × (finalByte 512 readCalls readCard′ ≡ 0x22)
+unfolding computed
+read-differs = (refl, refl)
+
+-- presenting the password tells them apart
+abbrev readOpened : List Call
+readOpened = call (3 ∷ 2 ∷ []) 0 ∷ call (10 ∷ 3 ∷ 0xFF ∷ 0xFF ∷ 0xFF ∷ []) 0 ∷ call (4 ∷ 0 ∷ 1 ∷ []) 1 ∷ []
+
+pub read-needed : Indistinguishable (inZoneOrPasswords 2 3) readOpened readCard readCard′ → ⊥
+unfolding computed
+read-needed i = let e : _≡_ {A = ℕ} 0x11 0 = ap (answered 2) (i .observed) in omega arith
+
+-- ---- authentication
+
+-- zone 1 demands authentication ($DF); the other card has another byte in the zone
+abbrev authCard : List ℕ
+authCard = set (set blank (registerAt 1) 0xDF) 256 0x11
+
+abbrev authCard′ : List ℕ
+authCard′ = set authCard 256 0x22
+
+-- Select zone 1, read it, write into it; begin authentication and be denied; begin again; an acceptance that is cut short
+-- (refused with 8) and a verdict out of range (refused with 7); read again.
+abbrev authCalls : List Call
+authCalls =
+    call (3 ∷ 1 ∷ []) 0
+    ∷ call (4 ∷ 0 ∷ 2 ∷ []) 4
+    ∷ call (5 ∷ 0 ∷ 1 ∷ 0x33 ∷ []) 0
+    ∷ call (11 ∷ []) 0
+    ∷ call (12 ∷ 0 ∷ replicate 8 7) 0
+    ∷ call (11 ∷ []) 0
+    ∷ call (12 ∷ 1 ∷ replicate 7 7) 0
+    ∷ call (12 ∷ 2 ∷ replicate 8 7) 0
+    ∷ call (4 ∷ 0 ∷ 2 ∷ []) 2
+    ∷ []
+
+auth-clean : throughout acceptsNot authCalls (powered authCard powerUp) ≡ true
+unfolding computed
+auth-clean = refl
+
+pub auth-example : Indistinguishable (inZone 1) authCalls authCard authCard′
+auth-example =
+    authentication-demanded 1 (omega arith) authCard authCard′ (record { long = refl; blown = refl }) (record { long = refl; blown = refl }) refl
+    (agree-set _ authCard authCard 256 0x22 (agree-self _ authCard) refl) authCalls (along acceptsNot AcceptsNot accepts-not authCalls (powered authCard powerUp) auth-clean)
+
+pub auth-refusals : refusals authCalls authCard ≡ 0 ∷ 0 ∷ 0 ∷ 0 ∷ 0 ∷ 0 ∷ 8 ∷ 7 ∷ 0 ∷ []
+unfolding computed
+auth-refusals = refl
+
+pub auth-differs : (finalByte 256 authCalls authCard ≡ 0x11) × (finalByte 256 authCalls authCard′ ≡ 0x22)
+unfolding computed
+auth-differs = (refl, refl)
+
+-- an acceptance tells them apart
+abbrev authOpened : List Call
+authOpened = call (3 ∷ 1 ∷ []) 0 ∷ call (11 ∷ []) 0 ∷ call (12 ∷ 1 ∷ replicate 8 7) 0 ∷ call (4 ∷ 0 ∷ 1 ∷ []) 1 ∷ []
+
+pub auth-needed : Indistinguishable (inZone 1) authOpened authCard authCard′ → ⊥
+unfolding computed
+auth-needed i = let e : _≡_ {A = ℕ} 0x11 0x22 = ap (answered 3) (i .observed) in omega arith

@@ -1,0 +1,10 @@
+pub mod TwoRuns
+pub mod Agree
+pub mod Unwinding
+pub mod Flow
+pub mod Secret
+pub mod Rights
+pub mod ReadPassword
+pub mod Authentication
+pub mod Demand3
+pub mod Examples

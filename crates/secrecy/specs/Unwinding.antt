@@ -1,0 +1,92 @@
+-- Unwinding: one command on two cards that agree outside the hidden places, at a common state, for any device. Where the hidden
+-- places may not be read and the password presented is judged alike, both cards report the same and agree as before.
+use Prim.Native.Nat.{ℕ}
+use mathlib.Core.Bool.{Bool, true, false, cond}
+use mathlib.Core.List.{List, [], _∷_}
+use mathlib.Core.Path.{_≡_, refl, sym, ap, subst, _∙_}
+use lib.Dec.{eqb}
+use lib.ListN.{set}
+use Rattle.model.specs.Lists.{at, tab, sameList, stores, tab-cong}
+use Rattle.model.specs.Volatile.{Volatile, isBegun}
+use Rattle.model.specs.Command.{Command, powerCycle, reset, select, readZone, writeZone, readConfiguration, writeConfiguration, readFuses, writeFuses, verifyPassword, beginAuthentication, verifyAuthentication}
+use Rattle.model.specs.Device.{Device}
+use Rattle.model.specs.Call.{Acted, reporting, silent}
+use Rattle.model.specs.Apply.{rules, shown, kept, password, spent, presented, started, judged, apply}
+use Rattle.model.specs.Effects.{Counter, ofPassword, ofAuthentication, counterPlace}
+use Rattle.secrecy.specs.Agree.{AgreeOutside, set-agree, stores-agree}
+
+-- the places by which a card decides and answers for itself are not hidden
+pub record Open (D : Device) (hidden : ℕ → Bool) : Type 0 where
+  pub rule : (k : ℕ) → hidden (D .ruleAt k) ≡ false
+  pub counter : (n : Counter) → hidden (counterPlace D n) ≡ false
+  pub resetByte : (k : ℕ) → hidden (D .resetByte k) ≡ false
+  pub fuse : hidden (D .fuseAt) ≡ false
+
+-- what a command leaves on two cards: the same report, and cards that agree
+abbrev pub Same : (ℕ → Bool) → Acted Volatile → Acted Volatile → Type 0
+Same hidden u v = (u .report ≡ v .report) × AgreeOutside hidden (u .card) (v .card)
+
+module _ (D : Device) (hidden : ℕ → Bool) (open-places : Open D hidden) where
+  pub rules-same : (c₁ c₂ : List ℕ) → AgreeOutside hidden c₁ c₂ → rules D c₁ ≡ rules D c₂
+  rules-same c₁ c₂ h = tab-cong _ _ (D .ruleCount) (λ k l. h .same (D .ruleAt k) (open-places .rule k))
+
+  presented-same : (locked right : Bool) (c₁ c₂ : List ℕ) (s : Volatile) (k : ℕ) → AgreeOutside hidden c₁ c₂
+      → Same hidden (silent (presented D locked right c₁ s k)) (silent (presented D locked right c₂ s k))
+  presented-same true right c₁ c₂ s k h = (refl, h)
+  presented-same false true c₁ c₂ s k h = (refl, set-agree hidden c₁ c₂ _ _ _ h (λ o. refl))
+  presented-same false false c₁ c₂ s k h = (refl, set-agree hidden c₁ c₂ _ _ _ h (λ o. ap (D .spend) (h .same _ o)))
+
+  started-same : (locked : Bool) (c₁ c₂ : List ℕ) (s : Volatile) → AgreeOutside hidden c₁ c₂
+      → Same hidden (silent (started D locked c₁ s)) (silent (started D locked c₂ s))
+  started-same true c₁ c₂ s h = (refl, h)
+  started-same false c₁ c₂ s h = (refl, set-agree hidden c₁ c₂ _ _ _ h (λ o. ap (D .spend) (h .same _ o)))
+
+  judged-same : (b v : Bool) (c₁ c₂ : List ℕ) (s : Volatile) (xs : List ℕ) → AgreeOutside hidden c₁ c₂
+      → Same hidden (silent (judged D b v c₁ s xs)) (silent (judged D b v c₂ s xs))
+  judged-same false v c₁ c₂ s xs h = (refl, h)
+  judged-same true true c₁ c₂ s xs h = (refl, set-agree hidden _ _ _ _ _ (stores-agree hidden _ _ xs 0 c₁ c₂ h) (λ o. refl))
+  judged-same true false c₁ c₂ s xs h = (refl, h)
+
+  module _ (c₁ c₂ : List ℕ) (s : Volatile) (h : AgreeOutside hidden c₁ c₂)
+      (unreadable : (i : ℕ) → hidden i ≡ true → D .mayRead (rules D c₁) s i ≡ false) where
+    -- what is read at a place
+    shown-same : (i : ℕ) → shown D c₁ s i ≡ shown D c₂ s i
+    shown-same i = go (hidden i) refl ∙ ap (λ (ρ : List ℕ). cond (D .mayRead ρ s i) (at c₂ i) (D .concealed ρ i)) (rules-same c₁ c₂ h)
+      where
+        go : (t : Bool) → hidden i ≡ t → shown D c₁ s i ≡ cond (D .mayRead (rules D c₁) s i) (at c₂ i) (D .concealed (rules D c₁) i)
+        go true e = rw (unreadable i e)
+        go false e = ap (λ (v : ℕ). cond (D .mayRead (rules D c₁) s i) v (D .concealed (rules D c₁) i)) (h .same i e)
+
+    read-same : (f : ℕ → ℕ) (n : ℕ) → tab (λ k. shown D c₁ s (f k)) n ≡ tab (λ k. shown D c₂ s (f k)) n
+    read-same f n = tab-cong _ _ n (λ k l. shown-same (f k))
+
+    written-same : (cell : ℕ → ℕ) (xs : List ℕ)
+        → AgreeOutside hidden (stores (kept D (rules D c₁) s) cell xs 0 c₁) (stores (kept D (rules D c₂) s) cell xs 0 c₂)
+    written-same cell xs =
+        subst (λ (ρ : List ℕ). AgreeOutside hidden (stores (kept D (rules D c₁) s) cell xs 0 c₁) (stores (kept D ρ s) cell xs 0 c₂)) (rules-same c₁ c₂ h)
+        (stores-agree hidden (kept D (rules D c₁) s) cell xs 0 c₁ c₂ h)
+
+    pub unwind : (k : Command) → ((j : ℕ) (xs : List ℕ) → k ≡ verifyPassword j xs → sameList xs (password D c₁ j) ≡ sameList xs (password D c₂ j))
+        → Same hidden (apply D c₁ s k) (apply D c₂ s k)
+    unfolding apply
+    unwind powerCycle g = (refl, h)
+    unwind reset g = (ap (reporting _) (tab-cong _ _ (D .resetCount) (λ k l. ap (D .sent) (h .same _ (open-places .resetByte k)))), h)
+    unwind (select z) g = (refl, h)
+    unwind (readZone a n) g = (ap (reporting s) (read-same (D .zoneByte (s .zone) a) n), h)
+    unwind (writeZone a xs) g = (refl, written-same (D .zoneCell (s .zone) a) xs)
+    unwind (readConfiguration a n) g = (ap (reporting s) (read-same (D .configurationByte a) n), h)
+    unwind (writeConfiguration a xs) g = (refl, written-same (D .configurationCell a) xs)
+    unwind readFuses g = (ap (λ (f : ℕ). reporting s (f ∷ [])) (h .same _ (open-places .fuse)), h)
+    unwind writeFuses g = (refl, go (D .mayBlow s))
+      where
+        go : (t : Bool) → AgreeOutside hidden (cond t (set c₁ (D .fuseAt) (D .blow (at c₁ (D .fuseAt)))) c₁) (cond t (set c₂ (D .fuseAt) (D .blow (at c₂ (D .fuseAt)))) c₂)
+        go true = set-agree hidden c₁ c₂ _ _ _ h (λ o. ap (D .blow) (h .same _ o))
+        go false = h
+    unwind (verifyPassword j xs) g =
+        subst (λ (v : ℕ). Same hidden (apply D c₁ s (verifyPassword j xs)) (silent (presented D (eqb v 0) (sameList xs (password D c₂ j)) c₂ s j))) (h .same _ (open-places .counter (ofPassword j)))
+        (subst (λ (r : Bool). Same hidden (apply D c₁ s (verifyPassword j xs)) (silent (presented D (eqb (at c₁ (D .counterAt j)) 0) r c₂ s j))) (g j xs refl)
+        (presented-same (eqb (at c₁ (D .counterAt j)) 0) (sameList xs (password D c₁ j)) c₁ c₂ s j h))
+    unwind beginAuthentication g =
+        subst (λ (v : ℕ). Same hidden (apply D c₁ s beginAuthentication) (silent (started D (eqb v 0) c₂ s))) (h .same _ (open-places .counter ofAuthentication))
+        (started-same (eqb (at c₁ (D .attemptsAt)) 0) c₁ c₂ s h)
+    unwind (verifyAuthentication v xs) g = judged-same (isBegun (s .authentication)) v c₁ c₂ s xs h
