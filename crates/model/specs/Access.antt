@@ -120,5 +120,6 @@ unfoldable pub permits : ℕ → ℕ → Active → Bool
 permits code p a =
     cond (eqb code free) true (cond (eqb code sc) (isActive a 7) (cond (eqb code wp) (isActive a p) false))
 
-abbrev pub configurationAllows : ℕ → ℕ → ℕ → Volatile → Bool
-configurationAllows write f a s = permits (permission (areaOf a) (stageOf f) write) (setOf a) (s .active)
+-- whether a configuration address may be reached
+abbrev pub configurationAllows : ℕ → ℕ → ℕ → Active → Bool
+configurationAllows write f a active = permits (permission (areaOf a) (stageOf f) write) (setOf a) active

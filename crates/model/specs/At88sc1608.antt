@@ -56,12 +56,12 @@ registerOf ρ z = at ρ (1 + z)
 unfoldable pub mayRead : List ℕ → Volatile → ℕ → Bool
 mayRead ρ s i =
     cond (ltb i configurationAt) (zoneReadable (fuses ρ) (registerOf ρ (i / 256)) s)
-    (cond (ltb i fuseAt) (configurationAllows 0 (fuses ρ) (i - configurationAt) s) false)
+    (cond (ltb i fuseAt) (configurationAllows 0 (fuses ρ) (i - configurationAt) (s .active)) false)
 
 unfoldable pub mayWrite : List ℕ → Volatile → ℕ → Bool
 mayWrite ρ s i =
     cond (ltb i configurationAt) (zoneWritable (fuses ρ) (registerOf ρ (i / 256)) s)
-    (cond (ltb i fuseAt) (configurationAllows 1 (fuses ρ) (i - configurationAt) s) false)
+    (cond (ltb i fuseAt) (configurationAllows 1 (fuses ρ) (i - configurationAt) (s .active)) false)
 
 unfoldable pub merge : List ℕ → ℕ → ℕ → ℕ → ℕ
 merge ρ i old new = cond (ltb i configurationAt) (zoneMerge (fuses ρ) (registerOf ρ (i / 256)) old new) new

@@ -3,13 +3,13 @@
 use Prim.Native.Nat.{ℕ, zero, suc, _≤_}
 use mathlib.Core.Bool.{Bool, true, false, cond}
 use mathlib.Core.List.{List, [], _∷_}
-use mathlib.Core.Path.{_≡_, refl, sym, ap, _∙_}
+use mathlib.Core.Path.{_≡_, refl}
 use native.Mathlib.Omega.{arith}
 use borrow.Author.Tests.{ltb-false}
 use lib.Dec.{ltb}
 use lib.ListN.{length}
 use Rattle.model.specs.Refusal.{bytesLeft, noSpace}
-use Rattle.model.specs.Call.{Acted, Powered, powered, Decoded, refused, whole, Call, Called, checked, exact, fitting, admit, carried, command, step, final}
+use Rattle.model.specs.Call.{Acted, Powered, Decoded, refused, whole, Call, checked, exact, fitting, admit, carried, command, step, final}
 
 -- a refusal is no accepted record
 pub refused-whole : {K : Type 0} (r : ℕ) (k : K) (n : ℕ) → refused r ≡ whole k n → ⊥

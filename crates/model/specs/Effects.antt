@@ -10,7 +10,7 @@ use Rattle.model.specs.Lists.{at, sameList, stores, length-tab}
 use Rattle.model.specs.Volatile.{Volatile, none, selector, idle, begun, granted, powerUp, isBegun, selecting, activating, authenticating}
 use Rattle.model.specs.Command.{Command, powerCycle, reset, select, readZone, writeZone, readConfiguration, writeConfiguration, readFuses, writeFuses, verifyPassword, beginAuthentication, verifyAuthentication}
 use Rattle.model.specs.Device.{Device}
-use Rattle.model.specs.Apply.{fullCounter, rules, kept, password, spent, presented, started, judged, apply}
+use Rattle.model.specs.Apply.{fullCounter, rules, kept, password, presented, started, judged, apply}
 
 -- the bytes that a command carries
 abbrev pub carried : Command → List ℕ

@@ -17,5 +17,7 @@ pub mod Effects
 pub mod CallLaws
 pub mod RecordLaws
 pub mod Sane
+pub mod AccessLaws
+pub mod Loops
 pub mod Computed
 pub mod Cases

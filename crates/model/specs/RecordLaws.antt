@@ -1,19 +1,19 @@
 -- Laws of the record decoder: what it tells of a record that it accepts.
-use Prim.Native.Nat.{ℕ, zero, suc, _+_, _≤_, _<_}
-use mathlib.Core.Bool.{Bool, true, false, cond, not, _&&_, true≢false}
-use mathlib.Core.List.{List, [], _∷_}
-use mathlib.Core.Path.{_≡_, refl, sym, ap, _∙_}
+use Prim.Native.Nat.{ℕ, _+_, _≤_, _<_}
+use mathlib.Core.Bool.{Bool, true, false, cond, not}
+use mathlib.Core.List.{List}
+use mathlib.Core.Path.{_≡_, refl}
 use native.Mathlib.Omega.{arith}
-use borrow.Author.Tests.{ltb-true, ltb-false, leb-true, leb-false, eqb-true, eqb-false, not-true, not-false, eq-eqb}
+use borrow.Author.Tests.{ltb-false, leb-true, eqb-false, not-true, not-false}
 use lib.Dec.{ltb, leb, eqb}
-use lib.ListN.{length, take, drop, length-take, length-drop}
+use lib.ListN.{length, take, drop, length-drop}
 use lib.Seq.{length-take-le}
-use Rattle.model.specs.Lists.{at, Bytes, and-left, and-right}
+use Rattle.model.specs.Lists.{at, and-left, and-right}
 use Rattle.model.specs.Tables.{each}
-use Rattle.model.specs.Call.{Decoded, refused, whole}
+use Rattle.model.specs.Call.{whole}
 use Rattle.model.specs.CallLaws.{past}
 use Rattle.model.specs.Command.{Command, powerCycle, reset, select, readZone, writeZone, readConfiguration, writeConfiguration, readFuses, writeFuses, verifyPassword, beginAuthentication, verifyAuthentication}
-use Rattle.model.specs.Record.{known, fixedFields, inRange, dataLength, made, dataAt, recordLength, decode}
+use Rattle.model.specs.Record.{known, inRange, dataLength, made, dataAt, recordLength, decode}
 
 -- the data of a record
 abbrev pub dataOf : List ℕ → List ℕ

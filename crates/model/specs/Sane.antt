@@ -1,29 +1,29 @@
 -- What every command keeps of a card and its volatile state, for any device that meets a few laws, and for the AT88SC1608:
 -- lengths, bytes, a valid fuse byte, a state in range. So 11, 5 and 12 never arise after the first call.
 use Prim.Native.Nat.{ℕ, suc, _≤_, _<_, _/_}
-use mathlib.Core.Bool.{Bool, true, false, cond, not, _&&_, _||_}
-use mathlib.Core.List.{List, [], _∷_}
+use mathlib.Core.Bool.{Bool, true, false, cond, not, _&&_}
+use mathlib.Core.List.{List}
 use mathlib.Core.Path.{_≡_, refl, sym, ap, _∙_}
 use native.Mathlib.Omega.{arith}
-use borrow.Author.Tests.{ltb-true, ltb-false, eqb-true, not-false, lt-ltb, le-ltb, eq-eqb}
+use borrow.Author.Tests.{ltb-true, eqb-true, not-false, lt-ltb, eq-eqb}
 use lib.Bits.{bitAnd, and-le-l}
 use lib.Dec.{ltb, eqb}
 use lib.ListN.{length, set, length-set}
 use Rattle.model.specs.Lists.{choice, at, Bytes, at-set-other, at-set-kept, at-set-either, and-left, and-right}
-use Rattle.model.specs.Tables.{everyBelow, passes-at}
+use Rattle.model.specs.Tables.{passes-at}
 use Rattle.model.specs.Bits.{spentCounter}
-use Rattle.model.specs.Volatile.{Volatile, Active, none, selector}
-use Rattle.model.specs.Command.{Command, powerCycle, reset, select, readZone, writeZone, readConfiguration, writeConfiguration, readFuses, writeFuses, verifyPassword, beginAuthentication, verifyAuthentication}
+use Rattle.model.specs.Volatile.{Volatile}
+use Rattle.model.specs.Command.{Command, select, verifyPassword}
 use Rattle.model.specs.Device.{Device}
-use Rattle.model.specs.Call.{Powered, Call, whole}
+use Rattle.model.specs.Call.{Powered, Call}
 use Rattle.model.specs.CallLaws.{list-keeps}
 use Rattle.model.specs.Access.{pgo}
 use Rattle.model.specs.At88sc1608.{at88sc1608, fuses, registerOf, mayWrite, merge, blow}
-use Rattle.model.specs.Apply.{fullCounter, rules, kept}
+use Rattle.model.specs.Apply.{rules, kept}
 use Rattle.model.specs.Apply as any
 use Rattle.model.specs.Record.{decode}
 use Rattle.model.specs.RecordLaws.{Fields, decode-fields}
-use Rattle.model.specs.Single.{isFuseByte, activeBelow, stateInRange, checkOf, check, apply, final}
+use Rattle.model.specs.Single.{isFuseByte, stateInRange, checkOf, check, apply, final}
 use Rattle.model.specs.Effects.{Counter, ofPassword, ofAuthentication, counterPlace, carried, Change, writes, fills, spends, renews, blows, changes, Move, stays, powers, resets, selects, opens, closes, begins, grants, denies, moves}
 
 -- Laws of a device: what it computes of bytes are bytes, and its fuse byte is moved by write fuses alone, from stage to stage.

@@ -1,25 +1,25 @@
 -- The claim about authentication, closed for the AT88SC1608: the laws of Flow, for a zone alone. No password is secret.
-use Prim.Native.Nat.{ℕ, _+_, _-_, _/_, _%_, _≤_, _<_}
+use Prim.Native.Nat.{ℕ, _-_, _/_, _≤_, _<_}
 use mathlib.Core.Bool.{Bool, true, false, cond, true≢false}
 use mathlib.Core.List.{List}
 use mathlib.Core.Path.{_≡_, refl, sym, ap, _∙_}
 use native.Mathlib.Omega.{arith}
 use borrow.Author.Tests.{eqb-true, ne-eqb}
 use lib.Dec.{eqb}
-use Rattle.model.specs.Lists.{at}
 use Rattle.model.specs.Volatile.{Volatile, powerUp, isGranted}
 use Rattle.model.specs.Command.{Command}
 use Rattle.model.specs.Call.{Call}
 use Rattle.model.specs.Access.{ate}
-use Rattle.model.specs.At88sc1608.{at88sc1608, fuseAt, fuses, registerAt, registerOf, mayRead}
+use Rattle.model.specs.At88sc1608.{at88sc1608, fuseAt, fuses, registerAt, registerOf}
 use Rattle.model.specs.Apply.{rules}
+use Rattle.model.specs.AccessLaws.{fuse-rule, register-rule, zone-read}
 use Rattle.model.specs.Record.{decode}
 use Rattle.model.specs.Effects.{Counter, ofPassword, ofAuthentication, counterPlace, Move, stays, powers, resets, selects, opens, closes, begins, grants, denies}
 use Rattle.secrecy.specs.Agree.{AgreeOutside}
 use Rattle.secrecy.specs.Unwinding.{Open}
 use Rattle.secrecy.specs.Flow.{Confines, Allows, indistinguishable}
 use Rattle.secrecy.specs.Secret.{Sealed, register, inZone, AcceptsNot, Throughout, Indistinguishable}
-use Rattle.secrecy.specs.Rights.{zone-read, fuse-rule, register-rule, rule-kept, last-stage}
+use Rattle.secrecy.specs.Rights.{rule-kept, last-stage}
 
 abbrev secret : ℕ → Bool
 secret j = false

@@ -1,7 +1,7 @@
 -- The claims of demand 3 are not empty: for each, two different sealed cards and a list of calls that meets its conditions and
 -- is not told apart; and a list that breaks the condition and tells the cards apart. All of it is computed.
 use Prim.Native.Nat.{ℕ, _%_}
-use mathlib.Core.Bool.{Bool, true, false, not, _&&_, _||_, true≢false}
+use mathlib.Core.Bool.{Bool, true, not, _&&_, _||_, true≢false}
 use mathlib.Core.List.{List, [], _∷_, _++_, map}
 use mathlib.Core.Path.{_≡_, refl, sym, ap, _∙_}
 use native.Mathlib.Omega.{arith}

@@ -1,18 +1,19 @@
 -- The claim about the read password, closed for the AT88SC1608: the laws of Flow, for a zone and the two passwords of its set.
-use Prim.Native.Nat.{ℕ, _+_, _-_, _*_, _/_, _%_, _≤_, _<_}
+use Prim.Native.Nat.{ℕ, _+_, _-_, _/_, _%_, _≤_, _<_}
 use mathlib.Core.Bool.{Bool, true, false, cond, _||_}
 use mathlib.Core.List.{List}
 use mathlib.Core.Path.{_≡_, refl, sym, ap, _∙_}
 use native.Mathlib.Omega.{arith}
 use borrow.Author.Tests.{eqb-true, eqb-false, ne-eqb}
 use lib.Dec.{eqb}
-use Rattle.model.specs.Lists.{at, sameList, and-false}
+use Rattle.model.specs.Lists.{sameList, and-false}
 use Rattle.model.specs.Volatile.{Volatile, powerUp, isActive, isGranted}
 use Rattle.model.specs.Command.{Command, verifyPassword}
 use Rattle.model.specs.Call.{Call}
 use Rattle.model.specs.Access.{rpe, ate, passwordSet, met, setOf}
 use Rattle.model.specs.At88sc1608.{at88sc1608, fuseAt, fuses, registerAt, registerOf, passwordByte, mayRead}
 use Rattle.model.specs.Apply.{rules, password}
+use Rattle.model.specs.AccessLaws.{fuse-rule, register-rule, zone-read, configuration-read, configuration-written}
 use Rattle.model.specs.Record.{decode}
 use Rattle.model.specs.Effects.{Counter, ofPassword, ofAuthentication, counterPlace, Move, stays, powers, resets, selects, opens, closes, begins, grants, denies}
 use Rattle.model.specs.Sane.{Untouched}
@@ -20,7 +21,7 @@ use Rattle.secrecy.specs.Agree.{AgreeOutside}
 use Rattle.secrecy.specs.Unwinding.{Open}
 use Rattle.secrecy.specs.Flow.{Confines, Allows, indistinguishable}
 use Rattle.secrecy.specs.Secret.{Sealed, register, inZone, inPassword, inZoneOrPasswords, PresentsNeither, Throughout, Indistinguishable}
-use Rattle.secrecy.specs.Rights.{zone-read, configuration-read, configuration-written, password-right, password-odd, password-set, password-counter, fuse-rule, register-rule, rule-kept, last-stage}
+use Rattle.secrecy.specs.Rights.{password-right, password-odd, password-set, password-counter, rule-kept, last-stage}
 
 -- ---- places
 
@@ -92,7 +93,7 @@ module _ (z p : ℕ) (zone : z < 8) (set : p < 8) where
         hidden-place (λ i. mayRead ρ s i ≡ false)
         (λ i q. zone-read ρ s i (omega arith) ∙ rw (q, sealed, demanded, ours, l .0, l .1) (and-false (met (ate (registerOf ρ z)) (isGranted (s .authentication)))))
         (λ k n q. configuration-read ρ s (passwordByte k n) (omega arith) (omega arith)
-        ∙ password-right 0 (fuses ρ) _ s (omega arith) sealed (omega arith) (λ e. omega (arith, password-odd k n))
+        ∙ password-right 0 (fuses ρ) _ (s .active) (omega arith) sealed (omega arith) (λ e. omega (arith, password-odd k n))
         ∙ rw (password-set k n, q) (l .0))
 
     password-kept : (s : Volatile) → Locked s → (j i : ℕ) → secret j ≡ true → Untouched at88sc1608 ρ s (passwordByte j i)
@@ -100,7 +101,7 @@ module _ (z p : ℕ) (zone : z < 8) (set : p < 8) where
         record {
           shut =
               configuration-written ρ s (passwordByte j i) (omega arith) (omega arith)
-              ∙ password-right 1 (fuses ρ) _ s (omega arith) sealed (omega arith) (λ e. omega (arith, password-odd j i))
+              ∙ password-right 1 (fuses ρ) _ (s .active) (omega arith) sealed (omega arith) (λ e. omega (arith, password-odd j i))
               ∙ rw (password-set j i, eqb-true (j % 8) p t) (l .0);
           counters = password-counter j i;
           cryptogram = λ k e. omega arith;

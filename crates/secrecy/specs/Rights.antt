@@ -1,32 +1,18 @@
 -- The rights of the AT88SC1608 by place, once PER is blown: the table and the registers as facts about single places.
-use Prim.Native.Nat.{ℕ, zero, suc, _+_, _-_, _*_, _/_, _%_, _≤_, _<_}
-use mathlib.Core.Bool.{Bool, true, false, cond, not, _&&_, _||_}
+use Prim.Native.Nat.{ℕ, zero, suc, _+_, _-_, _%_, _≤_, _<_}
+use mathlib.Core.Bool.{Bool, true, false, cond}
 use mathlib.Core.List.{List}
-use mathlib.Core.Path.{_≡_, refl, sym, ap, _∙_}
+use mathlib.Core.Path.{_≡_, refl, _∙_}
 use native.Mathlib.Omega.{arith}
-use borrow.Author.Tests.{lt-ltb, le-ltb, eq-eqb, ne-eqb, eqb-true, eqb-false}
-use lib.Dec.{ltb, eqb}
-use Rattle.model.specs.Lists.{at, tab, at-tab}
-use Rattle.model.specs.Volatile.{Volatile, isActive, isGranted}
-use Rattle.model.specs.Access.{rpe, ate, passwordSet, zoneReadable, zoneReads, permissions, permission, permits, areaOf, stageOf, setOf, configurationAllows}
-use Rattle.model.specs.At88sc1608.{at88sc1608, fuseAt, fuses, registerAt, registerOf, passwordByte, counterAt, ruleAt, mayRead, mayWrite, blow}
-use Rattle.model.specs.Apply.{rules}
+use borrow.Author.Tests.{lt-ltb, le-ltb, ne-eqb, eqb-true}
+use lib.Dec.{eqb}
+use Rattle.model.specs.Lists.{at}
+use Rattle.model.specs.Volatile.{Volatile, Active, isActive}
+use Rattle.model.specs.Access.{permissions, permission, permits, areaOf, stageOf, setOf, configurationAllows}
+use Rattle.model.specs.At88sc1608.{at88sc1608, fuseAt, fuses, registerAt, passwordByte, ruleAt, blow}
+use Rattle.model.specs.AccessLaws.{configuration-written}
 use Rattle.model.specs.Effects.{Counter, ofPassword, ofAuthentication, counterPlace}
 use Rattle.model.specs.Sane.{Untouched, fuse-shut, fuse-counter}
-
--- ---- which definition speaks for a place
-
-pub zone-read : (ρ : List ℕ) (s : Volatile) (i : ℕ) → i < 2048 → mayRead ρ s i ≡ zoneReadable (fuses ρ) (registerOf ρ (i / 256)) s
-unfolding mayRead
-zone-read ρ s i h = rw (lt-ltb i 2048 h)
-
-pub configuration-read : (ρ : List ℕ) (s : Volatile) (i : ℕ) → 2048 ≤ i → i < 2176 → mayRead ρ s i ≡ configurationAllows 0 (fuses ρ) (i - 2048) s
-unfolding mayRead
-configuration-read ρ s i h k = rw (le-ltb i 2048 h, lt-ltb i 2176 k)
-
-pub configuration-written : (ρ : List ℕ) (s : Volatile) (i : ℕ) → 2048 ≤ i → i < 2176 → mayWrite ρ s i ≡ configurationAllows 1 (fuses ρ) (i - 2048) s
-unfolding mayWrite
-configuration-written ρ s i h k = rw (le-ltb i 2048 h, lt-ltb i 2176 k)
 
 -- ---- the places of a password: in the configuration from $40 on, never at a multiple of 4, of the selector's set
 
@@ -50,16 +36,16 @@ area-registers a h k = rw (le-ltb a 12 (omega arith), le-ltb a 16 h, lt-ltb a 48
 -- ---- a sealed card
 
 -- a password is read and written with the write password of its set alone
-pub password-right : (write : ℕ) → (f a : ℕ) (s : Volatile) → write < 2 → f ≡ 0 → 64 ≤ a → (a % 4 ≡ 0 → ⊥) → configurationAllows write f a s ≡ isActive (s .active) (setOf a)
+pub password-right : (write f a : ℕ) (active : Active) → write < 2 → f ≡ 0 → 64 ≤ a → (a % 4 ≡ 0 → ⊥) → configurationAllows write f a active ≡ isActive active (setOf a)
 unfolding permission permissions stageOf permits
-password-right zero f a s w e h k = rw (e, area-passwords a h k)
-password-right (suc zero) f a s w e h k = rw (e, area-passwords a h k)
-password-right (suc (suc n)) f a s w e h k = absurd (let z : ⊥ = omega arith in z)
+password-right zero f a active w e h k = rw (e, area-passwords a h k)
+password-right (suc zero) f a active w e h k = rw (e, area-passwords a h k)
+password-right (suc (suc n)) f a active w e h k = absurd (let z : ⊥ = omega arith in z)
 
 -- nothing writes an access register
-pub register-shut : (f a : ℕ) (s : Volatile) → f ≡ 0 → 16 ≤ a → a < 48 → configurationAllows 1 f a s ≡ false
+pub register-shut : (f a : ℕ) (active : Active) → f ≡ 0 → 16 ≤ a → a < 48 → configurationAllows 1 f a active ≡ false
 unfolding permission permissions stageOf permits
-register-shut f a s e h k = rw (e, area-registers a h k)
+register-shut f a active e h k = rw (e, area-registers a h k)
 
 -- ---- places apart
 
@@ -73,14 +59,6 @@ password-counter j i ofAuthentication = λ e. omega arith
 
 -- ---- the rule bytes of a card
 
-pub fuse-rule : (c : List ℕ) → fuses (rules at88sc1608 c) ≡ at c fuseAt
-fuse-rule c = at-tab _ 9 0 (omega arith)
-
-pub register-rule : (c : List ℕ) (z : ℕ) → z < 8 → registerOf (rules at88sc1608 c) z ≡ at c (registerAt z)
-register-rule c z h =
-    let e : 1 + z - 1 ≡ z = omega arith in
-    at-tab (λ k. at c (ruleAt k)) 9 (1 + z) (omega arith) ∙ rw (ne-eqb (1 + z) 0 (λ q. omega arith), e)
-
 -- nothing writes them
 pub rule-kept : (ρ : List ℕ) → fuses ρ ≡ 0 → (s : Volatile) (k : ℕ) → Untouched at88sc1608 ρ s (ruleAt k)
 rule-kept ρ f s k = go (eqb k 0)
@@ -89,7 +67,7 @@ rule-kept ρ f s k = go (eqb k 0)
     go true = record { shut = fuse-shut ρ s; counters = fuse-counter; cryptogram = λ n e. omega arith }
     go false =
         record {
-          shut = configuration-written ρ s _ (omega arith) (omega arith) ∙ register-shut (fuses ρ) _ s f (omega arith) (omega arith);
+          shut = configuration-written ρ s _ (omega arith) (omega arith) ∙ register-shut (fuses ρ) _ (s .active) f (omega arith) (omega arith);
           counters = register-counter (k - 1);
           cryptogram = λ n e. omega arith;
         }

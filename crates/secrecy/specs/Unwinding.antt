@@ -3,7 +3,7 @@
 use Prim.Native.Nat.{ℕ}
 use mathlib.Core.Bool.{Bool, true, false, cond}
 use mathlib.Core.List.{List, [], _∷_}
-use mathlib.Core.Path.{_≡_, refl, sym, ap, subst, _∙_}
+use mathlib.Core.Path.{_≡_, refl, ap, subst, _∙_}
 use lib.Dec.{eqb}
 use lib.ListN.{set}
 use Rattle.model.specs.Lists.{at, tab, sameList, stores, tab-cong}
@@ -11,7 +11,7 @@ use Rattle.model.specs.Volatile.{Volatile, isBegun}
 use Rattle.model.specs.Command.{Command, powerCycle, reset, select, readZone, writeZone, readConfiguration, writeConfiguration, readFuses, writeFuses, verifyPassword, beginAuthentication, verifyAuthentication}
 use Rattle.model.specs.Device.{Device}
 use Rattle.model.specs.Call.{Acted, reporting, silent}
-use Rattle.model.specs.Apply.{rules, shown, kept, password, spent, presented, started, judged, apply}
+use Rattle.model.specs.Apply.{rules, shown, kept, password, presented, started, judged, apply}
 use Rattle.model.specs.Effects.{Counter, ofPassword, ofAuthentication, counterPlace}
 use Rattle.secrecy.specs.Agree.{AgreeOutside, set-agree, stores-agree}
 

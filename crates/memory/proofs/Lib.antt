@@ -1,0 +1,3 @@
+mod ConfigurationLaws
+mod ResetLaws
+mod ZoneLaws

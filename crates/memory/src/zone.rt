@@ -1,0 +1,84 @@
+// Reading and writing the selected zone.
+ghost use mathlib.Core.Path.{_≡_};
+ghost use mathlib.Core.Bool.{cond};
+ghost use mathlib.Core.List.{_++_};
+ghost use Prim.Native.Nat.{_+_, _%_, _<_, _≤_};
+ghost use lib.ListN.{length, drop};
+ghost use Rattle.model.specs.Lists.{at, tab};
+ghost use Rattle.model.specs.Command.{readZone, writeZone};
+ghost use Rattle.model.specs.Single.{apply};
+ghost use Rattle.memory.specs.Page.{mergesOf};
+ghost use Rattle.access.specs.State.{volatileOf};
+use crate::page;
+use access::register;
+use access::rights::zone_readable;
+use access::rights::zone_writable;
+use access::volatile::Volatile;
+
+// A byte as it is answered: $00 where the zone may not be read.
+fn shown(readable: bool, byte: u8) -> u8
+    ensures { λ r. ⌜ r ≡ cond readable byte 0 ⌝ }
+{
+    if readable {
+        return byte;
+    }
+    0
+}
+
+// count bytes of the 256 from base on, starting at the address and going on at the first past the last.
+fn roll(card: &[u8], base: usize, address: usize, count: usize, readable: bool, response: &mut [u8])
+    requires { ⌜ (base + 256 ≤ length (now card)) × (address < 256) × (count ≤ length (now response)) ⌝ }
+    ensures { λ _. ⌜ now (response .exit) ≡ tab (λ k. cond readable (at (now (card .entry)) (base + (address + k) % 256)) 0) count ++ drop count (now (response .entry)) ⌝ }
+{
+    let mut i = 0;
+    while i < count {
+        response[i] = shown(readable, card[base + (address + i) % 256]);
+        i += 1;
+    }
+}
+
+// helper: read zone.
+pub fn read_zone(card: &[u8], state: Volatile, address: u8, count: usize, response: &mut [u8])
+    requires { ⌜ (length (now card) ≡ 2177) × (state .zone .0 < 8) × (count ≤ length (now response)) ⌝ }
+    ensures { λ _. ⌜ now (response .exit) ≡ apply (now (card .entry)) (volatileOf state) (readZone address count) .report .answer ++ drop count (now (response .entry)) ⌝ }
+{
+    let zone = state.zone.0 as usize;
+    let readable = zone_readable(card[2176], card[2064 + zone], state);
+    roll(
+        card,
+        zone * 256,
+        address as usize,
+        count,
+        readable,
+        response,
+    );
+}
+
+// Whether a write to a zone clears bits only.
+fn merges(fuses: u8, register: u8) -> bool
+    ensures { λ r. ⌜ r ≡ mergesOf fuses register ⌝ }
+{
+    if fuses == 7 {
+        return false;
+    }
+    let fields = register::fields(register);
+    fields.pgo
+}
+
+// helper: write zone.
+pub fn write_zone(card: &mut [u8], state: Volatile, address: u8, bytes: &[u8])
+    requires { ⌜ (length (now card) ≡ 2177) × (state .zone .0 < 8) ⌝ }
+    ensures { λ _. ⌜ now (card .exit) ≡ apply (now (card .entry)) (volatileOf state) (writeZone address (now (bytes .entry))) .card ⌝ }
+{
+    let zone = state.zone.0 as usize;
+    let fuses = card[2176];
+    let register = card[2064 + zone];
+    if !zone_writable(fuses, register, state) {
+        return;
+    }
+    let pgo = merges(fuses, register);
+    let base = zone * 256 + address as usize / 16 * 16;
+    let end = base + 16;
+    let low = address as usize % 16;
+    page::store(&mut card[base..end], low, bytes, pgo);
+}

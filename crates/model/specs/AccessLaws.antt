@@ -1,0 +1,67 @@
+-- Laws of access on the AT88SC1608: which definition speaks for a place, and the rule bytes of a card.
+use Prim.Native.Nat.{ℕ, _+_, _-_, _/_, _%_, _≤_, _<_}
+use mathlib.Core.List.{List}
+use mathlib.Core.Path.{_≡_, _∙_}
+use native.Mathlib.Omega.{arith}
+use lib.Dec.{ltb, eqb}
+use borrow.Author.Tests.{lt-ltb, le-ltb, ne-eqb}
+use Rattle.model.specs.Lists.{at, at-tab, choice}
+use Rattle.model.specs.Volatile.{Volatile}
+use Rattle.model.specs.Access.{zoneReadable, zoneWritable, zoneMerge, areaOf, stageOf, configurationAllows}
+use Rattle.model.specs.At88sc1608.{at88sc1608, fuseAt, registerAt, ruleAt, fuses, registerOf, mayRead, mayWrite, merge}
+use Rattle.model.specs.Apply.{rules}
+
+-- ---- the rule bytes of a card
+
+pub fuse-rule : (c : List ℕ) → fuses (rules at88sc1608 c) ≡ at c fuseAt
+fuse-rule c = at-tab (λ k. at c (ruleAt k)) 9 0 (omega arith)
+
+pub register-rule : (c : List ℕ) (z : ℕ) → z < 8 → registerOf (rules at88sc1608 c) z ≡ at c (registerAt z)
+register-rule c z h =
+    let e : 1 + z - 1 ≡ z = omega arith in
+    at-tab (λ k. at c (ruleAt k)) 9 (1 + z) (omega arith) ∙ rw (ne-eqb (1 + z) 0 (λ q. omega arith), e)
+
+-- ---- a place of a zone
+
+pub zone-read : (ρ : List ℕ) (s : Volatile) (i : ℕ) → i < 2048 → mayRead ρ s i ≡ zoneReadable (fuses ρ) (registerOf ρ (i / 256)) s
+unfolding mayRead
+zone-read ρ s i h = rw (lt-ltb i 2048 h)
+
+pub zone-written : (ρ : List ℕ) (s : Volatile) (i : ℕ) → i < 2048 → mayWrite ρ s i ≡ zoneWritable (fuses ρ) (registerOf ρ (i / 256)) s
+unfolding mayWrite
+zone-written ρ s i h = rw (lt-ltb i 2048 h)
+
+pub zone-merged : (ρ : List ℕ) (i old new : ℕ) → i < 2048 → merge ρ i old new ≡ zoneMerge (fuses ρ) (registerOf ρ (i / 256)) old new
+unfolding merge
+zone-merged ρ i old new h = rw (lt-ltb i 2048 h)
+
+-- ---- a place of the configuration
+
+pub configuration-read : (ρ : List ℕ) (s : Volatile) (i : ℕ) → 2048 ≤ i → i < 2176 → mayRead ρ s i ≡ configurationAllows 0 (fuses ρ) (i - 2048) (s .active)
+unfolding mayRead
+configuration-read ρ s i h k = rw (le-ltb i 2048 h, lt-ltb i 2176 k)
+
+pub configuration-written : (ρ : List ℕ) (s : Volatile) (i : ℕ) → 2048 ≤ i → i < 2176 → mayWrite ρ s i ≡ configurationAllows 1 (fuses ρ) (i - 2048) (s .active)
+unfolding mayWrite
+configuration-written ρ s i h k = rw (le-ltb i 2048 h, lt-ltb i 2176 k)
+
+pub configuration-merged : (ρ : List ℕ) (i old new : ℕ) → 2048 ≤ i → merge ρ i old new ≡ new
+unfolding merge
+configuration-merged ρ i old new h = rw (le-ltb i 2048 h)
+
+-- ---- the entries of the table exist
+
+pub area-below : (a : ℕ) → areaOf a < 7
+unfolding areaOf
+area-below a =
+    choice (λ n. n < 7) (ltb a 12) _ _ (omega arith)
+    (choice (λ n. n < 7) (ltb a 16) _ _ (omega arith)
+    (choice (λ n. n < 7) (ltb a 48) _ _ (omega arith)
+    (choice (λ n. n < 7) (ltb a 56) _ _ (omega arith)
+    (choice (λ n. n < 7) (ltb a 64) _ _ (omega arith) (choice (λ n. n < 7) (eqb (a % 4) 0) 6 5 (omega arith) (omega arith))))))
+
+pub stage-below : (f : ℕ) → stageOf f < 4
+unfolding stageOf
+stage-below f =
+    choice (λ n. n < 4) (eqb f 7) _ _ (omega arith)
+    (choice (λ n. n < 4) (eqb f 6) _ _ (omega arith) (choice (λ n. n < 4) (eqb f 4) 2 3 (omega arith) (omega arith)))

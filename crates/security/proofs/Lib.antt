@@ -1,0 +1,4 @@
+mod AuthenticationLaws
+mod ByteLaws
+mod FuseLaws
+mod PasswordLaws

@@ -1,0 +1,2 @@
+pub mod Password
+pub mod Cryptogram
