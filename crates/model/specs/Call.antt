@@ -57,6 +57,9 @@ pub record Call : Type 0 where
   pub sent : List ℕ
   pub space : List ℕ
 
+abbrev pub calling : List ℕ → List ℕ → Call
+calling sent space = record { sent = sent; space = space }
+
 -- a refusal gives its number and length 0, hands the state back and changes nothing
 abbrev pub refusing : {S : Type 0} → ℕ → S → List ℕ → Reply S
 refusing n s space = record { refusal = n; length = 0; state = s; space = space }
@@ -87,9 +90,12 @@ module _ {S K : Type 0} (check : List ℕ → S → ℕ) (decode : List ℕ → 
   fitting c s room (refused n) = refused n
   fitting c s room (whole k n) = cond (ltb room (length (act c s k .report .answer))) (refused noSpace) (whole k n)
 
-  -- whether a call is refused, and with which number, or which command it carries out
-  unfoldable pub admit : List ℕ → S → Call → Decoded K
-  admit c s x = checked (check c s) (fitting c s (length (x .space)) (exact (x .sent) (decode (x .sent))))
+  -- of a record and the room for a response: the number of a refusal, or the command that is carried out
+  unfoldable pub admission : List ℕ → S → List ℕ → ℕ → Decoded K
+  admission c s bytes room = checked (check c s) (fitting c s room (exact bytes (decode bytes)))
+
+  abbrev pub admit : List ℕ → S → Call → Decoded K
+  admit c s x = admission c s (x .sent) (length (x .space))
 
   abbrev pub carried : List ℕ → S → List ℕ → Decoded K → Called S
   carried c s space (refused n) = record { card = c; reply = refusing n s space }

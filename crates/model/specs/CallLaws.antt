@@ -9,7 +9,7 @@ use borrow.Author.Tests.{ltb-false}
 use lib.Dec.{ltb}
 use lib.ListN.{length}
 use Rattle.model.specs.Refusal.{bytesLeft, noSpace}
-use Rattle.model.specs.Call.{Acted, Powered, Decoded, refused, whole, Call, checked, exact, fitting, admit, carried, command, step, final}
+use Rattle.model.specs.Call.{Acted, Powered, Decoded, refused, whole, Call, checked, exact, fitting, admission, admit, carried, command, step, final}
 
 -- a refusal is no accepted record
 pub refused-whole : {K : Type 0} (r : ℕ) (k : K) (n : ℕ) → refused r ≡ whole k n → ⊥
@@ -48,7 +48,7 @@ module _ {S K : Type 0} (check : List ℕ → S → ℕ) (decode : List ℕ → 
       (p .1, rw q at (ltb-false room (length (act c s k′ .report .answer)) (p .0)))
 
   pub admitted : (c : List ℕ) (s : S) (x : Call) (k : K) (n : ℕ) → admit check decode act c s x ≡ whole k n → Admitted c s x k n
-  unfolding admit
+  unfolding admission
   admitted c s x k n e =
       let p = past-check (check c s) _ k n e in
       let q = past-fitting c s (length (x .space)) _ k n (p .1) in

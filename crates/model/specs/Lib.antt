@@ -18,6 +18,7 @@ pub mod CallLaws
 pub mod RecordLaws
 pub mod Sane
 pub mod AccessLaws
+pub mod Numbers
 pub mod Loops
 pub mod Computed
 pub mod Cases

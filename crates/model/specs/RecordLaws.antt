@@ -8,12 +8,12 @@ use borrow.Author.Tests.{ltb-false, leb-true, eqb-false, not-true, not-false}
 use lib.Dec.{ltb, leb, eqb}
 use lib.ListN.{length, take, drop, length-drop}
 use lib.Seq.{length-take-le}
-use Rattle.model.specs.Lists.{at, and-left, and-right}
+use Rattle.model.specs.Lists.{at, choice, and-left, and-right}
 use Rattle.model.specs.Tables.{each}
 use Rattle.model.specs.Call.{whole}
 use Rattle.model.specs.CallLaws.{past}
 use Rattle.model.specs.Command.{Command, powerCycle, reset, select, readZone, writeZone, readConfiguration, writeConfiguration, readFuses, writeFuses, verifyPassword, beginAuthentication, verifyAuthentication}
-use Rattle.model.specs.Record.{known, inRange, dataLength, made, dataAt, recordLength, decode}
+use Rattle.model.specs.Record.{known, fixedFields, inRange, dataLength, made, dataAt, recordLength, decode}
 
 -- the data of a record
 abbrev pub dataOf : List ℕ → List ℕ
@@ -101,3 +101,27 @@ pub decode-fields : (part : List ℕ) (k : Command) (n : ℕ) → decode part �
 decode-fields part k n e =
     let a = accepted part k n e in
     rw (a .command) at (made-fields (at part 1) (at part 2) (dataOf part) (at part 0) (a .kind) (a .fields) (length-data part k n a))
+
+-- ---- how long a record can be
+
+pub fixed-small : (kind : ℕ) → fixedFields kind ≤ 2
+unfolding fixedFields
+fixed-small kind =
+    choice P (eqb kind 3) 1 _ (omega arith)
+    (choice P (eqb kind 4) 2 _ (omega arith)
+    (choice P (eqb kind 5) 2 _ (omega arith)
+    (choice P (eqb kind 6) 2 _ (omega arith)
+    (choice P (eqb kind 7) 2 _ (omega arith)
+    (choice P (eqb kind 10) 1 _ (omega arith) (choice P (eqb kind 12) 1 0 (omega arith) (omega arith)))))))
+  where
+    P : ℕ → Type 0
+    P n = n ≤ 2
+
+pub data-small : (kind n : ℕ) → n < 256 → dataLength kind n < 256
+unfolding dataLength
+data-small kind n h =
+    choice P (eqb kind 5) n _ h
+    (choice P (eqb kind 7) n _ h (choice P (eqb kind 10) 3 _ (omega arith) (choice P (eqb kind 12) 8 0 (omega arith) (omega arith))))
+  where
+    P : ℕ → Type 0
+    P m = m < 256

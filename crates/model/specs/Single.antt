@@ -39,7 +39,10 @@ check = checkOf at88sc1608
 abbrev pub apply : List ℕ → Volatile → Command → calls.Acted Volatile
 apply = any.apply at88sc1608
 
--- 11, 5, 12, the record, 9, 10; or the command that is carried out
+-- of a record and the room for a response: 11, 5, 12, the record, 9, 10; or the command that is carried out
+abbrev pub admission : List ℕ → Volatile → List ℕ → ℕ → Decoded Command
+admission = calls.admission check decode apply
+
 abbrev pub admit : List ℕ → Volatile → Call → Decoded Command
 admit = calls.admit check decode apply
 

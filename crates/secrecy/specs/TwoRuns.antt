@@ -7,7 +7,7 @@ use mathlib.Core.Path.{_≡_, refl, ap, subst}
 use lib.Dec.{ltb}
 use lib.ListN.{length}
 use Rattle.model.specs.Refusal.{noSpace}
-use Rattle.model.specs.Call.{Acted, Powered, Decoded, refused, whole, Call, Called, checked, exact, fitting, replying, admit, carried, command, step, replies, final}
+use Rattle.model.specs.Call.{Acted, Powered, Decoded, refused, whole, Call, Called, checked, exact, fitting, replying, admission, admit, carried, command, step, replies, final}
 
 -- two cards, each with its state: the states are equal and the cards related
 abbrev pub Twin : {S : Type 0} → (List ℕ → List ℕ → S → Type 0) → Powered S → Powered S → Type 0
@@ -40,7 +40,7 @@ module _ {S K : Type 0} (check : List ℕ → S → ℕ) (decode : List ℕ → 
     fitting-same c₁ c₂ s room (whole k n) r = λ i. cond (ltb room (sizes c₁ c₂ s k r i)) (refused noSpace) (whole k n)
 
     pub admit-same : (c₁ c₂ : List ℕ) (s : S) (x : Call) → R c₁ c₂ s → admit check decode act c₁ s x ≡ admit check decode act c₂ s x
-    unfolding admit
+    unfolding admission
     admit-same c₁ c₂ s x r =
         λ i. checked (checks c₁ c₂ s r i) (fitting-same c₁ c₂ s (length (x .space)) (exact (x .sent) (decode (x .sent))) r i)
 

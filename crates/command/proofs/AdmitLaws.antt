@@ -1,0 +1,104 @@
+-- Admission, from what the tests of the code found, in their order.
+use Prim.Native.Nat.{ℕ, _≤_, _<_}
+use mathlib.Core.Bool.{Bool, true, false, not}
+use mathlib.Core.List.{List, []}
+use mathlib.Core.Path.{_≡_, refl, sym, _∙_}
+use borrow.Author.Tests.{lt-ltb, le-ltb, eq-eqb, ne-eqb}
+use lib.ListN.{length}
+use Rattle.model.specs.Lists.{at}
+use Rattle.model.specs.Volatile.{Volatile}
+use Rattle.model.specs.Call.{Decoded, refused, whole, checked}
+use Rattle.model.specs.Call as calls
+use Rattle.model.specs.At88sc1608.{at88sc1608}
+use Rattle.model.specs.Effects.{answerLength, answer-length}
+use Rattle.model.specs.Record.{decode}
+use Rattle.model.specs.Refusal.{cardLength, fuseByte, stateOutOfRange, bytesLeft, noSpace}
+use Rattle.model.specs.Single.{isFuseByte, stateInRange, checkOf, check, apply, admission}
+use Rattle.record.specs.Record.{commandOf}
+use Rattle.record.specs.Refusal.{refusalNumber}
+use Rattle.record.specs.declared.decoder.Record.{Record}
+use Rattle.record.specs.declared.decoder.Record.the-variants as kind
+use Rattle.record.specs.declared.refusal.Refusal.{Refusal}
+use Rattle.record.specs.declared.refusal.Refusal.the-variants as refusal
+
+-- ---- the checks
+
+module _ (c : List ℕ) (s : Volatile) where
+  pub bad-length : (length c ≡ 2177 → ⊥) → cardLength ≡ check c s
+  unfolding checkOf
+  bad-length n = rw (ne-eqb _ _ n)
+
+  module _ (ok : Bool) (long : length c ≡ 2177) (fuses : ok ≡ isFuseByte (at c 2176)) where
+    pub bad-fuses : not ok ≡ true → fuseByte ≡ check c s
+    unfolding checkOf
+    bad-fuses e = rw (eq-eqb _ _ long, ← fuses, e)
+
+    module _ (ok′ : Bool) (fine : not ok ≡ false) (range : ok′ ≡ stateInRange at88sc1608 s) where
+      pub bad-state : not ok′ ≡ true → stateOutOfRange ≡ check c s
+      unfolding checkOf
+      bad-state e = rw (eq-eqb _ _ long, ← fuses, fine, ← range, e)
+
+      pub all-well : not ok′ ≡ false → 0 ≡ check c s
+      unfolding checkOf
+      all-well e = rw (eq-eqb _ _ long, ← fuses, fine, ← range, e)
+
+-- ---- admission
+
+-- no refusal has the number 0
+checked-refusal : {K : Type 0} (why : Refusal) (d : Decoded K) → refused (refusalNumber why) ≡ checked (refusalNumber why) d
+checked-refusal refusal.SessionLength d = refl
+checked-refusal refusal.SessionTrailer d = refl
+checked-refusal refusal.StartOutOfRange d = refl
+checked-refusal refusal.TooManyRecords d = refl
+checked-refusal refusal.FuseByte d = refl
+checked-refusal refusal.UnknownKind d = refl
+checked-refusal refusal.FieldOutOfRange d = refl
+checked-refusal refusal.CutShort d = refl
+checked-refusal refusal.BytesLeft d = refl
+checked-refusal refusal.NoSpace d = refl
+checked-refusal refusal.CardLength d = refl
+checked-refusal refusal.StateOutOfRange d = refl
+checked-refusal refusal.NotALog d = refl
+checked-refusal refusal.NoSuchAnswer d = refl
+
+-- a record's answer is as long whatever its data
+pub answer-alone : (bytes : List ℕ) (n : ℕ) (r : Record) → answerLength at88sc1608 (commandOf bytes n r) ≡ answerLength at88sc1608 (commandOf [] 0 r)
+answer-alone bytes n kind.PowerCycle = refl
+answer-alone bytes n kind.Reset = refl
+answer-alone bytes n (kind.Select z) = refl
+answer-alone bytes n (kind.ReadZone a m) = refl
+answer-alone bytes n (kind.WriteZone a) = refl
+answer-alone bytes n (kind.ReadConfiguration a m) = refl
+answer-alone bytes n (kind.WriteConfiguration a) = refl
+answer-alone bytes n kind.ReadFuses = refl
+answer-alone bytes n kind.WriteFuses = refl
+answer-alone bytes n (kind.VerifyPassword k) = refl
+answer-alone bytes n kind.BeginAuthentication = refl
+answer-alone bytes n (kind.VerifyAuthentication v) = refl
+
+module _ (c : List ℕ) (s : Volatile) (bytes : List ℕ) (room : ℕ) where
+  pub check-refused : (why : Refusal) → refusalNumber why ≡ check c s → refused (refusalNumber why) ≡ admission c s bytes room
+  unfolding calls.admission
+  check-refused why e = rw (← e) (checked-refusal why _)
+
+  module _ (passed : 0 ≡ check c s) where
+    pub record-refused : (n : ℕ) → refused n ≡ decode bytes → refused n ≡ admission c s bytes room
+    unfolding calls.admission
+    record-refused n e = rw (← passed, ← e)
+
+    module _ (r : Record) (n : ℕ) (decoded : whole (commandOf bytes n r) n ≡ decode bytes) where
+      pub left-over : n < length bytes → refused bytesLeft ≡ admission c s bytes room
+      unfolding calls.admission
+      left-over l = rw (← passed, ← decoded, lt-ltb _ _ l)
+
+      module _ (m : ℕ) (all : length bytes ≤ n) (long : m ≡ answerLength at88sc1608 (commandOf [] 0 r)) where
+        answered : length (apply c s (commandOf bytes n r) .report .answer) ≡ m
+        answered = answer-length at88sc1608 c s (commandOf bytes n r) ∙ answer-alone bytes n r ∙ sym long
+
+        pub no-room : room < m → refused noSpace ≡ admission c s bytes room
+        unfolding calls.admission
+        no-room l = rw (← passed, ← decoded, le-ltb _ _ all, answered, lt-ltb _ _ l)
+
+        pub is-admitted : m ≤ room → whole (commandOf bytes n r) n ≡ admission c s bytes room
+        unfolding calls.admission
+        is-admitted l = rw (← passed, ← decoded, le-ltb _ _ all, answered, le-ltb _ _ l)

@@ -1,0 +1,53 @@
+-- The single command, from its admission and from what was carried out.
+use Prim.Native.Nat.{ℕ}
+use mathlib.Core.List.{List, _++_}
+use mathlib.Core.Path.{_≡_, sym, ap, _∙_}
+use borrow.Author.Tests.{ltb-true}
+use lib.ListN.{length, drop}
+use Rattle.model.specs.Lists.{and-left}
+use Rattle.model.specs.Volatile.{Volatile}
+use Rattle.model.specs.Command.{Command}
+use Rattle.model.specs.Call.{refused, whole, calling, refusing}
+use Rattle.model.specs.Call as calls
+use Rattle.model.specs.CallLaws.{admitted}
+use Rattle.model.specs.At88sc1608.{at88sc1608}
+use Rattle.model.specs.Effects.{answerLength, answer-length}
+use Rattle.model.specs.Record.{decode}
+use Rattle.model.specs.RecordLaws.{decode-within, decode-fields}
+use Rattle.model.specs.Sane.{Good, good-check}
+use Rattle.model.specs.Single.{check, apply, admission, command}
+use Rattle.command.specs.Carried.{Ready, Carried}
+
+module _ (c : List ℕ) (s : Volatile) (bytes space : List ℕ) where
+  pub call-refused : (n : ℕ) → refused n ≡ admission c s bytes (length space) → record { card = c; reply = refusing n s space } ≡ command c s (calling bytes space)
+  unfolding calls.command
+  call-refused n e = rw (← e)
+
+  module _ (k : Command) (n : ℕ) (e : whole k n ≡ admission c s bytes (length space)) where
+    pub ready : Ready c s k bytes n space
+    ready =
+        let a = admitted check decode apply c s (calling bytes space) k n (sym e) in
+        let g : Good c s = good-check c s (a .checks) in
+        record {
+          long = g .long;
+          zone = ltb-true (s .zone) 8 (and-left _ _ (g .range));
+          fields = decode-fields bytes k n (a .decodes);
+          within = decode-within bytes k n (a .decodes) .1;
+          room = rw (answer-length at88sc1608 c s k) at (a .fits);
+        }
+
+    pub call-carried : (m : ℕ) (c′ : List ℕ) (s′ : Volatile) (space′ : List ℕ) → m ≡ answerLength at88sc1608 k → Carried c s k space c′ s′ space′
+        → record { card = c′; reply = record { refusal = 0; length = m; state = s′; space = space′ } } ≡ command c s (calling bytes space)
+    unfolding calls.command
+    call-carried m c′ s′ space′ q w =
+        let l : length (apply c s k .report .answer) ≡ answerLength at88sc1608 k = answer-length at88sc1608 c s k in
+        rw (← e)
+        (λ i. record {
+          card = w .card i;
+          reply = record {
+            refusal = 0;
+            length = (q ∙ sym l) i;
+            state = w .state i;
+            space = (w .answer ∙ ap (λ (j : ℕ). apply c s k .report .answer ++ drop j space) (sym l)) i;
+          };
+        })

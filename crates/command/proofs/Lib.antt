@@ -1,0 +1,2 @@
+mod AdmitLaws
+mod CommandLaws

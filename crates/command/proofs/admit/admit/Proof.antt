@@ -1,0 +1,69 @@
+-- Each return by what was found on the way.
+use mathlib.Core.Path.{sym, ap, _∙_}
+use borrow.Author.Needs.{needs}
+use Rattle.command.specs.Reply.{outcomeNumber}
+use Rattle.record.specs.Record.{decodedOf}
+use Rattle.command.proofs.AdmitLaws.{check-refused, record-refused, left-over, no-room, is-admitted}
+use Rattle.command.proofs.admit.admit.Statement.{statement}
+use Rattle.command.proofs.admit.admit.Tie as tie
+
+check-requires : tie.Need-check-requires
+check-requires c κs = search needs
+
+enum-known-why : tie.Need-enum-known-why
+enum-known-why c = search needs
+
+returns : tie.Need-returns
+returns c = check-refused _ _ _ _ (c .before .why .given .0 .0) (sym (ap outcomeNumber (c .before .why .given .1)) ∙ c .before .before .before .check .ensures)
+
+enum-told : tie.Need-enum-told
+enum-told c = search needs
+
+decode-requires : tie.Need-decode-requires
+decode-requires c κs = search needs
+
+enum-known-why-2 : tie.Need-enum-known-why-2
+enum-known-why-2 c = search needs
+
+enum-known-kind : tie.Need-enum-known-kind
+enum-known-kind c = search needs
+
+returns-2 : tie.Need-returns-2
+returns-2 c =
+    left-over _ _ _ _ (sym (ap outcomeNumber (c .before .before .before .before .before .enum-told .given .1)) ∙ c .before .before .before .before .before .before .before .check .ensures) (c .before .before .kind .given .0 .0) _
+    (sym (ap (decodedOf (c .before .before .before .before .before .before .before .before .before .before .args .«record» .now)) (c .before .before .kind .given .1)) ∙ c .before .before .before .before .decode .ensures) (c .if1 .taken)
+
+answer-length-requires : tie.Need-answer-length-requires
+answer-length-requires c κs = search needs
+
+returns-3 : tie.Need-returns-3
+returns-3 c =
+    no-room _ _ _ _ (sym (ap outcomeNumber (c .before .before .before .before .before .before .before .enum-told .given .1)) ∙ c .before .before .before .before .before .before .before .before .before .check .ensures) (c .before .before .before .before .kind .given .0 .0) _
+    (sym (ap (decodedOf (c .before .before .before .before .before .before .before .before .before .before .before .before .args .«record» .now)) (c .before .before .before .before .kind .given .1)) ∙ c .before .before .before .before .before .before .decode .ensures) _ (c .before .before .if1 .left) (c .before .answer-length .ensures) (c .if2 .taken)
+
+returns-4 : tie.Need-returns-4
+returns-4 c =
+    record-refused _ _ _ _ (sym (ap outcomeNumber (c .before .before .before .before .enum-told .given .1)) ∙ c .before .before .before .before .before .before .check .ensures) _
+    (sym (ap (decodedOf (c .before .before .before .before .before .before .before .before .before .args .«record» .now)) (c .before .why2 .given .1)) ∙ c .before .before .before .decode .ensures)
+
+returns-5 : tie.Need-returns-5
+returns-5 c =
+    is-admitted _ _ _ _ (sym (ap outcomeNumber (c .before .before .before .before .before .before .before .enum-told .given .1)) ∙ c .before .before .before .before .before .before .before .before .before .check .ensures) (c .before .before .before .before .kind .given .0 .0) _
+    (sym (ap (decodedOf (c .before .before .before .before .before .before .before .before .before .before .before .before .args .«record» .now)) (c .before .before .before .before .kind .given .1)) ∙ c .before .before .before .before .before .before .decode .ensures) _ (c .before .before .if1 .left) (c .before .answer-length .ensures) (c .if2 .left)
+
+pub admit-spec : {M : Type 1} → statement M
+admit-spec =
+    tie.close
+    (tie.spec
+    check-requires
+    enum-known-why
+    returns
+    enum-told
+    decode-requires
+    enum-known-why-2
+    enum-known-kind
+    returns-2
+    answer-length-requires
+    returns-3
+    returns-4
+    returns-5)

@@ -1,0 +1,53 @@
+-- Refused, or carried out, by what was admitted.
+use mathlib.Core.Path.{sym, ap, _∙_}
+use borrow.Author.Needs.{needs}
+use Rattle.record.specs.Record.{commandOf, decodedOf}
+use Rattle.command.proofs.AdmitLaws.{answer-alone}
+use Rattle.command.proofs.CommandLaws.{call-refused, ready, call-carried}
+use Rattle.command.proofs.command.Statement.{statement}
+use Rattle.command.proofs.command.Tie as tie
+
+admit-requires : tie.Need-admit-requires
+admit-requires c κs = search needs
+
+enum-known-why : tie.Need-enum-known-why
+enum-known-why c = search needs
+
+enum-known-kind : tie.Need-enum-known-kind
+enum-known-kind c = search needs
+
+answer-length-requires : tie.Need-answer-length-requires
+answer-length-requires c κs = search needs
+
+carry-out-requires : tie.Need-carry-out-requires
+carry-out-requires c κs = ready _ _ _ _ _ _ (sym (ap (decodedOf (c .before .before .before .before .before .before .before .before .before .before .before .args .«record» .now)) (c .before .before .before .before .kind .given .1)) ∙ c .before .before .before .before .before .before .admit .ensures)
+
+same-length : tie.Need-same-length
+same-length c = search needs
+
+returns : tie.Need-returns
+returns c = call-refused _ _ _ _ _ (sym (ap (decodedOf (c .before .before .before .before .before .before .before .before .args .«record» .now)) (c .before .why .given .1)) ∙ c .before .before .before .admit .ensures)
+
+same-length-2 : tie.Need-same-length-2
+same-length-2 c = search needs
+
+same-length-3 : tie.Need-same-length-3
+same-length-3 c = search needs
+
+returns-2 : tie.Need-returns-2
+returns-2 c = call-carried _ _ _ _ _ _ (sym (ap (decodedOf (c .before .before .before .before .before .before .before .before .before .before .before .before .before .before .before .before .args .«record» .now)) (c .before .before .before .before .before .before .before .before .before .kind .given .1)) ∙ c .before .before .before .before .before .before .before .before .before .before .before .admit .ensures) _ _ _ _ (c .before .before .before .before .before .before .before .answer-length .ensures ∙ sym (answer-alone (c .before .before .before .before .before .before .before .before .before .before .before .before .before .before .before .before .args .«record» .now) (c .before .before .before .before .before .before .before .before .before .kind .given .0 .1 .0) (c .before .before .before .before .before .before .before .before .before .kind .given .0 .0))) (c .before .before .before .before .carry-out .ensures)
+
+pub command-spec : {M : Type 1} → statement M
+command-spec =
+    tie.close
+    (tie.spec
+    admit-requires
+    enum-known-why
+    enum-known-kind
+    answer-length-requires
+    carry-out-requires
+    same-length
+    returns
+    same-length-2
+    same-length-3
+    returns-2)

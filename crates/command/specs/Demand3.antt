@@ -1,0 +1,108 @@
+-- Demand 3 said of the code. A run of the code is a list of calls, each of which meets the contract of `command`: it gets the
+-- card and the state that the last one left. Two runs on cards that agree outside the secret places give back the same results
+-- and the same response spaces, call by call.
+use Prim.Native.Nat.{ℕ, _<_}
+use mathlib.Core.Bool.{Bool, true, false}
+use mathlib.Core.List.{List, [], _∷_, map}
+use mathlib.Core.Path.{_≡_, refl, sym, ap, _∙_}
+use native.Mathlib.Omega.{arith}
+use Rattle.model.specs.Call.{Call, Powered, powered, step}
+use Rattle.model.specs.Call as calls
+use Rattle.model.specs.Lists.{at}
+use Rattle.model.specs.Volatile as model
+use Rattle.model.specs.Access.{rpe, ate, passwordSet}
+use Rattle.model.specs.At88sc1608.{at88sc1608}
+use Rattle.model.specs.Effects.{Counter, counterPlace}
+use Rattle.model.specs.Record.{decode}
+use Rattle.model.specs.Single.{check, apply, command, replies, final}
+use Rattle.secrecy.specs.Agree.{AgreeOutside}
+use Rattle.secrecy.specs.Secret.{Sealed, register, inZone, inZoneOrPasswords, PresentsNeither, AcceptsNot, Throughout, Indistinguishable}
+use Rattle.secrecy.specs.Demand3 as model-claims
+use Rattle.access.specs.State.{volatileOf}
+use Rattle.access.specs.declared.volatile.Volatile.{Volatile}
+use Rattle.command.specs.declared.Reply.{Reply}
+use Rattle.command.specs.Reply.{calledOf}
+use Rattle.command.specs.Injective.{outcome-injective, volatile-injective}
+
+-- what one call gives back: its result, and its response space at exit
+pub record Given : Type 0 where
+  pub reply : Reply
+  pub space : List ℕ
+
+-- calls, the card and the state that they start with, what each gives back, and the card that they leave
+pub data Run : List Call → List ℕ → Volatile → List Given → List ℕ → Type 0 where
+  none : {c : List ℕ} {s : Volatile} → Run [] c s [] c
+  one-more : {x : Call} {xs : List Call} {c d e : List ℕ} {s : Volatile} {g : Given} {gs : List Given}
+      → calledOf (g .reply) d (g .space) ≡ command c (volatileOf s) x → Run xs d (g .reply .state) gs e → Run (x ∷ xs) c s (g ∷ gs) e
+
+-- ---- a run of the code is the model's
+
+abbrev replyOf : Given → calls.Reply model.Volatile
+replyOf g = calledOf (g .reply) [] (g .space) .reply
+
+run-model : {xs : List Call} {c e : List ℕ} {s : Volatile} {gs : List Given} → Run xs c s gs e
+    → (map replyOf gs ≡ replies xs (powered c (volatileOf s))) × (e ≡ final xs (powered c (volatileOf s)) .card)
+unfolding calls.replies calls.final
+run-model none = (refl, refl)
+run-model (one-more {x = x} {xs = xs} {c = c} {d = d} {s = s} {g = g} call rest) =
+    let ih = run-model rest in
+    let m : powered d (volatileOf (g .reply .state)) ≡ step check decode apply (powered c (volatileOf s)) x =
+    λ i. record { card = call i .card; state = call i .reply .state } in
+    (λ i. call i .reply ∷ (ih .0 ∙ ap (replies xs) m) i, ih .1 ∙ ap (λ (n : Powered model.Volatile). final xs n .card) m)
+
+-- ---- equal in the model, equal in the code
+
+given-injective : (g h : Given) → replyOf g ≡ replyOf h → g ≡ h
+given-injective g h e =
+    let o = outcome-injective (g .reply .outcome) (h .reply .outcome) (λ i. e i .refusal) in
+    let v = volatile-injective (g .reply .state) (h .reply .state) (λ i. e i .state) in
+    λ i. record { reply = record { outcome = o i; length = e i .length; state = v i }; space = e i .space }
+
+all-injective : (gs hs : List Given) → map replyOf gs ≡ map replyOf hs → gs ≡ hs
+all-injective [] [] e = refl
+all-injective [] (h ∷ hs) e = absurd (let z : _≡_ {A = ℕ} 0 1 = cc in let w : ⊥ = omega arith in w)
+all-injective (g ∷ gs) [] e = absurd (let z : _≡_ {A = ℕ} 0 1 = cc in let w : ⊥ = omega arith in w)
+all-injective (g ∷ gs) (h ∷ hs) e =
+    let p : replyOf g ≡ replyOf h = cc in
+    let q : map replyOf gs ≡ map replyOf hs = cc in
+    λ i. given-injective g h p i ∷ all-injective gs hs q i
+
+-- ---- the claims
+
+-- two runs of the code that are not told apart: what every call gives back is equal, and the cards left agree
+pub record NotToldApart (hidden : ℕ → Bool) (gs₁ gs₂ : List Given) (d₁ d₂ : List ℕ) : Type 0 where
+  pub observed : gs₁ ≡ gs₂
+  pub counters : (n : Counter) → at d₁ (counterPlace at88sc1608 n) ≡ at d₂ (counterPlace at88sc1608 n)
+  pub outside : (i : ℕ) → hidden i ≡ false → at d₁ i ≡ at d₂ i
+
+from-model : (hidden : ℕ → Bool) (xs : List Call) (b₁ b₂ : List ℕ) (s : Volatile) (gs₁ gs₂ : List Given) (d₁ d₂ : List ℕ) → volatileOf s ≡ model.powerUp
+    → Run xs b₁ s gs₁ d₁ → Run xs b₂ s gs₂ d₂ → Indistinguishable hidden xs b₁ b₂ → NotToldApart hidden gs₁ gs₂ d₁ d₂
+from-model hidden xs b₁ b₂ s gs₁ gs₂ d₁ d₂ e r₁ r₂ w =
+    let m₁ = run-model r₁ in
+    let m₂ = run-model r₂ in
+    let f₁ : d₁ ≡ final xs (powered b₁ model.powerUp) .card = m₁ .1 ∙ ap (λ (t : model.Volatile). final xs (powered b₁ t) .card) e in
+    let f₂ : d₂ ≡ final xs (powered b₂ model.powerUp) .card = m₂ .1 ∙ ap (λ (t : model.Volatile). final xs (powered b₂ t) .card) e in
+    record {
+      observed =
+          all-injective gs₁ gs₂
+          (m₁ .0 ∙ ap (λ (t : model.Volatile). replies xs (powered b₁ t)) e ∙ w .observed ∙ ap (λ (t : model.Volatile). replies xs (powered b₂ t)) (sym e) ∙ sym (m₂ .0));
+      counters = λ n. rw (f₁, f₂) (w .counters n);
+      outside = λ i h. rw (f₁, f₂) (w .outside i h);
+    }
+
+-- the read password, as Demand3 of crate `secrecy` has it, for every two runs of the code from power-up
+pub read-password : (z : ℕ) → z < 8 → (b₁ b₂ : List ℕ) → Sealed b₁ → Sealed b₂ → rpe (register b₁ z) ≡ true
+    → AgreeOutside (inZoneOrPasswords z (passwordSet (register b₁ z))) b₁ b₂
+    → (xs : List Call) → Throughout (PresentsNeither (passwordSet (register b₁ z)) b₁ b₂) xs b₁
+    → (s : Volatile) (gs₁ gs₂ : List Given) (d₁ d₂ : List ℕ) → volatileOf s ≡ model.powerUp → Run xs b₁ s gs₁ d₁ → Run xs b₂ s gs₂ d₂
+    → NotToldApart (inZoneOrPasswords z (passwordSet (register b₁ z))) gs₁ gs₂ d₁ d₂
+read-password z l b₁ b₂ s₁ s₂ r h xs a s gs₁ gs₂ d₁ d₂ e r₁ r₂ =
+    from-model (inZoneOrPasswords z (passwordSet (register b₁ z))) xs b₁ b₂ s gs₁ gs₂ d₁ d₂ e r₁ r₂ (model-claims.read-password z l b₁ b₂ s₁ s₂ r h xs a)
+
+-- authentication, likewise
+pub authentication-demanded : (z : ℕ) → z < 8 → (b₁ b₂ : List ℕ) → Sealed b₁ → Sealed b₂ → ate (register b₁ z) ≡ true
+    → AgreeOutside (inZone z) b₁ b₂ → (xs : List Call) → Throughout AcceptsNot xs b₁
+    → (s : Volatile) (gs₁ gs₂ : List Given) (d₁ d₂ : List ℕ) → volatileOf s ≡ model.powerUp → Run xs b₁ s gs₁ d₁ → Run xs b₂ s gs₂ d₂
+    → NotToldApart (inZone z) gs₁ gs₂ d₁ d₂
+authentication-demanded z l b₁ b₂ s₁ s₂ r h xs a s gs₁ gs₂ d₁ d₂ e r₁ r₂ =
+    from-model (inZone z) xs b₁ b₂ s gs₁ gs₂ d₁ d₂ e r₁ r₂ (model-claims.authentication-demanded z l b₁ b₂ s₁ s₂ r h xs a)

@@ -1,0 +1,4 @@
+pub mod Reply
+pub mod Carried
+pub mod Injective
+pub mod Demand3

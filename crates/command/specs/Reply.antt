@@ -1,0 +1,23 @@
+-- What a call of the code gives back, as the model has it.
+use Prim.Native.Nat.{ℕ}
+use mathlib.Core.List.{List}
+use Rattle.model.specs.Call as call
+use Rattle.model.specs.Volatile as model
+use Rattle.access.specs.State.{volatileOf}
+use Rattle.record.specs.Refusal.{refusalNumber}
+use Rattle.command.specs.declared.Outcome.{Outcome}
+use Rattle.command.specs.declared.Outcome.the-variants as outcome
+use Rattle.command.specs.declared.Reply.{Reply}
+
+-- the refusal's number, or 0
+abbrev pub outcomeNumber : Outcome → ℕ
+outcomeNumber outcome.Accepted = 0
+outcomeNumber (outcome.Refused why) = refusalNumber why
+
+-- the result with the card and the response space at exit
+abbrev pub calledOf : Reply → List ℕ → List ℕ → call.Called model.Volatile
+calledOf r card space =
+    record {
+      card = card;
+      reply = record { refusal = outcomeNumber (r .outcome); length = r .length; state = volatileOf (r .state); space = space };
+    }

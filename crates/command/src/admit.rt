@@ -1,0 +1,108 @@
+// Whether a call is refused, or which record it carries out: 11, 5, 12, the record, 9, 10.
+ghost use mathlib.Core.Path.{_≡_};
+ghost use mathlib.Core.List.{[]};
+ghost use Rattle.model.specs.At88sc1608.{at88sc1608};
+ghost use Rattle.model.specs.Effects.{answerLength};
+ghost use Rattle.model.specs.Single as model;
+ghost use Rattle.access.specs.State.{activeOf, volatileOf};
+ghost use Rattle.record.specs.Record.{commandOf, decodedOf};
+ghost use Rattle.command.specs.Reply.{outcomeNumber};
+use crate::Outcome;
+use access::volatile::Active;
+use access::volatile::Volatile;
+use record::decoder::Decoded;
+use record::decoder::Record;
+use record::decoder::decode;
+use record::refusal::Refusal;
+
+// F is 7, 6, 4 or 0.
+pub fn is_fuse_byte(fuses: u8) -> bool
+    ensures { λ r. ⌜ r ≡ model.isFuseByte fuses ⌝ }
+{
+    match fuses {
+        7 => true,
+        6 => true,
+        4 => true,
+        0 => true,
+        _ => false,
+    }
+}
+
+fn selector_in_range(active: Active) -> bool
+    ensures { λ r. ⌜ r ≡ model.activeBelow 16 (activeOf active) ⌝ }
+{
+    match active {
+        Active::None => true,
+        Active::Selector(k) => k < 16,
+    }
+}
+
+fn state_in_range(state: Volatile) -> bool
+    ensures { λ r. ⌜ r ≡ model.stateInRange at88sc1608 (volatileOf state) ⌝ }
+{
+    let zone = state.zone.0;
+    if zone < 8 {
+        let active = state.active;
+        return selector_in_range(active);
+    }
+    false
+}
+
+// The checks of the card and the state.
+pub fn check(card: &[u8], state: Volatile) -> Outcome
+    ensures { λ r. ⌜ outcomeNumber r ≡ model.check (now (card .entry)) (volatileOf state) ⌝ }
+{
+    if card.len() != 2177 {
+        return Outcome::Refused(Refusal::CardLength);
+    }
+    let fuses = is_fuse_byte(card[2176]);
+    let range = state_in_range(state);
+    if !fuses {
+        return Outcome::Refused(Refusal::FuseByte);
+    }
+    if !range {
+        return Outcome::Refused(Refusal::StateOutOfRange);
+    }
+    Outcome::Accepted
+}
+
+// How long the answer to a record is.
+pub fn answer_length(record: Record) -> usize
+    ensures { λ r. ⌜ r ≡ answerLength at88sc1608 (commandOf [] 0 «record») ⌝ }
+{
+    match record {
+        Record::PowerCycle => 0,
+        Record::Reset => 4,
+        Record::Select(_) => 0,
+        Record::ReadZone(_, count) => count as usize,
+        Record::WriteZone(_) => 0,
+        Record::ReadConfiguration(_, count) => count as usize,
+        Record::WriteConfiguration(_) => 0,
+        Record::ReadFuses => 1,
+        Record::WriteFuses => 0,
+        Record::VerifyPassword(_) => 0,
+        Record::BeginAuthentication => 0,
+        Record::VerifyAuthentication(_) => 0,
+    }
+}
+
+// A refusal, or the record that the call carries out and its length.
+pub fn admit(card: &[u8], state: Volatile, record: &[u8], room: usize) -> Decoded
+    ensures { λ r. ⌜ decodedOf (now («record» .entry)) r ≡ model.admission (now (card .entry)) (volatileOf state) (now («record» .entry)) room ⌝ }
+{
+    if let Outcome::Refused(why) = check(card, state) {
+        return Decoded::Refused(why);
+    }
+    match decode(record) {
+        Decoded::Refused(why) => Decoded::Refused(why),
+        Decoded::Whole(kind, end) => {
+            if end < record.len() {
+                return Decoded::Refused(Refusal::BytesLeft);
+            }
+            if room < answer_length(kind) {
+                return Decoded::Refused(Refusal::NoSpace);
+            }
+            Decoded::Whole(kind, end)
+        }
+    }
+}

@@ -1,0 +1,50 @@
+// The single command: one record on one card and its volatile state.
+ghost use mathlib.Core.Path.{_≡_};
+ghost use Rattle.model.specs.Call.{calling};
+ghost use Rattle.model.specs.Single as model;
+ghost use Rattle.access.specs.State.{volatileOf};
+ghost use Rattle.command.specs.Reply.{calledOf};
+use crate::admit::admit;
+use crate::admit::answer_length;
+use crate::carry::carry_out;
+use access::volatile::Volatile;
+use record::decoder::Decoded;
+use record::refusal::Refusal;
+
+pub mod admit;
+pub mod carry;
+
+pub enum Outcome {
+    Accepted,
+    Refused(Refusal),
+}
+
+// What a call gives back beside the response space.
+pub struct Reply {
+    pub outcome: Outcome,
+    pub length: usize,
+    pub state: Volatile,
+}
+
+// One command on a card. A refusal hands the state back and changes nothing.
+pub fn command(card: &mut [u8], state: Volatile, record: &[u8], response: &mut [u8]) -> Reply
+    ensures { λ r. ⌜ calledOf r (now (card .exit)) (now (response .exit)) ≡ model.command (now (card .entry)) (volatileOf state) (calling (now («record» .entry)) (now (response .entry))) ⌝ }
+{
+    let room = response.len();
+    match admit(card, state, record, room) {
+        Decoded::Refused(why) => Reply {
+            outcome: Outcome::Refused(why),
+            length: 0,
+            state,
+        },
+        Decoded::Whole(kind, end) => {
+            let length = answer_length(kind);
+            let after = carry_out(card, state, kind, record, end, response);
+            Reply {
+                outcome: Outcome::Accepted,
+                length,
+                state: after,
+            }
+        }
+    }
+}

@@ -1,0 +1,2 @@
+mod DecoderLaws
+mod ReaderParts

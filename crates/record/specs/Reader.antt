@@ -1,0 +1,29 @@
+-- The reader over a session ("a reader that holds the session's bytes and a place in them").
+use Prim.Native.Nat.{ℕ, _+_, _-_}
+use mathlib.Core.Bool.{cond}
+use mathlib.Core.List.{List, []}
+use lib.Dec.{ltb}
+use lib.ListN.{length, take, drop}
+use Rattle.model.specs.Call.{Decoded, refused, whole}
+use Rattle.model.specs.Command.{Command}
+use Rattle.model.specs.Record.{decode}
+
+-- where the records end: where the trailer begins, or at 0 if there are fewer than eight bytes
+abbrev pub recordsEnd : ℕ → ℕ
+recordsEnd n = n - 8
+
+-- the part of a session from a place up to that end
+abbrev pub partAt : List ℕ → ℕ → List ℕ
+partAt s i = take (recordsEnd (length s) - i) (drop i s)
+
+-- what the next record is
+abbrev pub nextOf : List ℕ → ℕ → Decoded Command
+nextOf s i = decode (partAt s i)
+
+-- the place past it; the same place where there is none
+abbrev pub past : ℕ → Decoded Command → ℕ
+past i (refused n) = i
+past i (whole k n) = i + n
+
+abbrev pub placeAfter : List ℕ → ℕ → ℕ
+placeAfter s i = past i (nextOf s i)
