@@ -4,6 +4,7 @@ ghost use mathlib.Core.Bool.{cond, _||_};
 ghost use Prim.Native.Nat.{_+_, _<_};
 ghost use Rattle.model.specs.Access.{met, zoneReads, zoneWrites, zoneReadable, zoneWritable, areaOf, stageOf};
 ghost use Rattle.model.specs.Access as model;
+ghost use Rattle.model.specs.Single.{isFuseByte};
 ghost use Rattle.access.specs.State.{activeOf, volatileOf};
 use crate::register;
 use crate::volatile::Active;
@@ -199,4 +200,17 @@ pub fn configuration_allows(write: u8, fuses: u8, address: u8, active: Active) -
     let code = permission(area(address), stage(fuses), write);
     let set = set_of(address);
     permits(code, set, active)
+}
+
+// F is 7, 6, 4 or 0.
+pub fn is_fuse_byte(fuses: u8) -> bool
+    ensures { λ r. ⌜ r ≡ isFuseByte fuses ⌝ }
+{
+    match fuses {
+        7 => true,
+        6 => true,
+        4 => true,
+        0 => true,
+        _ => false,
+    }
 }

@@ -8,25 +8,13 @@ ghost use Rattle.access.specs.State.{activeOf, volatileOf};
 ghost use Rattle.record.specs.Record.{commandOf, decodedOf};
 ghost use Rattle.command.specs.Reply.{outcomeNumber};
 use crate::Outcome;
+use access::rights::is_fuse_byte;
 use access::volatile::Active;
 use access::volatile::Volatile;
 use record::decoder::Decoded;
 use record::decoder::Record;
 use record::decoder::decode;
 use record::refusal::Refusal;
-
-// F is 7, 6, 4 or 0.
-pub fn is_fuse_byte(fuses: u8) -> bool
-    ensures { λ r. ⌜ r ≡ model.isFuseByte fuses ⌝ }
-{
-    match fuses {
-        7 => true,
-        6 => true,
-        4 => true,
-        0 => true,
-        _ => false,
-    }
-}
 
 fn selector_in_range(active: Active) -> bool
     ensures { λ r. ⌜ r ≡ model.activeBelow 16 (activeOf active) ⌝ }

@@ -19,6 +19,7 @@ pub mod RecordLaws
 pub mod Sane
 pub mod AccessLaws
 pub mod Numbers
+pub mod Log
 pub mod Loops
 pub mod Computed
 pub mod Cases

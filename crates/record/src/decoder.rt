@@ -33,7 +33,7 @@ pub enum Decoded {
     Whole(Record, usize),
 }
 
-fn both(a: bool, b: bool) -> bool
+pub fn both(a: bool, b: bool) -> bool
     ensures { λ r. ⌜ r ≡ (a && b) ⌝ }
 {
     if a {

@@ -1,7 +1,7 @@
 -- Each arm by its value.
 use Rattle.model.specs.Loops.{tests}
-use Rattle.command.proofs.admit.is_fuse_byte.Statement.{statement}
-use Rattle.command.proofs.admit.is_fuse_byte.Tie as tie
+use Rattle.access.proofs.rights.is_fuse_byte.Statement.{statement}
+use Rattle.access.proofs.rights.is_fuse_byte.Tie as tie
 
 returns : tie.Need-returns
 returns c = rw (c .match .keys1)

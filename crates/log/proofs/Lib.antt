@@ -1,0 +1,3 @@
+mod CheckLaws
+mod FindLaws
+mod WriteLaws

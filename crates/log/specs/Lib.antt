@@ -1,0 +1,5 @@
+pub mod Scan
+pub mod Found
+pub mod LogLaws
+pub mod Written
+pub mod Layout

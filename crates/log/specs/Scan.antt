@@ -1,0 +1,10 @@
+-- What one pass over the entries tells.
+use Prim.Native.Nat.{ℕ, _<_}
+use mathlib.Core.Bool.{Bool, true}
+use mathlib.Core.List.{List}
+use mathlib.Core.Path.{_≡_}
+use Rattle.model.specs.Log.{entriesOk, entryPlace}
+
+pub record Scanned (l : List ℕ) (count end number : ℕ) (ok : Bool) (place : ℕ) : Type 0 where
+  pub all : ok ≡ entriesOk count l 0 end
+  pub kept : ok ≡ true → number < count → place ≡ entryPlace number l 0

@@ -1,0 +1,201 @@
+-- A log that was written is accepted, and every answer that was written is given back.
+use Prim.Native.Nat.{ℕ, zero, suc, _+_, _-_, _*_, _≤_, _<_}
+use mathlib.Core.Bool.{Bool, true, false, cond, _&&_}
+use mathlib.Core.List.{List, [], _∷_, _++_, append-assoc}
+use mathlib.Core.Path.{_≡_, sym, ap, _∙_}
+use native.Mathlib.Nat.{add-zero, le-of-suc-le-suc}
+use native.Mathlib.Omega.{arith}
+use borrow.Author.Tests.{eq-eqb, lt-ltb, le-ltb, eqb-true, leb-true}
+use lib.Dec.{leb, eqb}
+use lib.ListN.{length, take, drop, length-append, List·getD-append}
+use lib.Seq.{getD-append-add, getD-append-seam, drop-append-add, drop-append-seam, take-append-seam, take-at}
+use Rattle.model.specs.Lists.{at, and-right}
+use Rattle.model.specs.Numbers.{bytesOf, numberAt, number-append, number-bytes}
+use Rattle.model.specs.Log.{Entry, entryBytes, entriesBytes, logTrailer, lengthFits, AllFit, LaidOut, countOf, offsetOf, lengthAt, nextEntry, entryOk, entriesOk, valid, entryPlace, find, missing, answerIn}
+use Rattle.model.specs.Refusal.{noSuchAnswer}
+use Rattle.log.specs.LogLaws.{entry-well, Trailed, trailer-well}
+
+-- ---- lengths
+
+-- no response is longer than 256 bytes
+pub fits-small : (kind n : ℕ) → lengthFits kind n ≡ true → n ≤ 256
+unfolding lengthFits
+fits-small kind n e = go (eqb kind 2) (eqb kind 4) (eqb kind 6) (eqb kind 8) e
+  where
+    go : (a b c d : Bool) → cond a (eqb n 4) (cond b (leb 1 n && leb n 256) (cond c (leb 1 n && leb n 128) (cond d (eqb n 1) (eqb n 0)))) ≡ true → n ≤ 256
+    go true b c d e = let q = eqb-true n 4 e in omega arith
+    go false true c d e = leb-true n 256 (and-right (leb 1 n) _ e)
+    go false false true d e = let q = leb-true n 128 (and-right (leb 1 n) _ e) in omega arith
+    go false false false true e = let q = eqb-true n 1 e in omega arith
+    go false false false false e = let q = eqb-true n 0 e in omega arith
+
+pub length-entry : (e : Entry) → length (entryBytes e) ≡ 3 + length (e .response)
+length-entry e = ap suc (length-append (bytesOf 2 (length (e .response))) (e .response)) ∙ (omega arith)
+
+pub entries-small : (es : List Entry) → AllFit es → length (entriesBytes es) ≤ 259 * length es
+entries-small [] f = omega arith
+entries-small (e ∷ es) f =
+    let a = length-append (entryBytes e) (entriesBytes es) in
+    let b = length-entry e in
+    let c = fits-small (e .kind) (length (e .response)) (f .1) in
+    let d = entries-small es (f .2) in
+    omega arith
+
+-- ---- an entry behind a prefix
+
+module _ (p : List ℕ) (e : Entry) (q : List ℕ) where
+  abbrev whole : List ℕ
+  whole = p ++ (entryBytes e ++ q)
+
+  pub kind-at : at whole (length p) ≡ e .kind
+  kind-at = getD-append-seam p (e .kind) ((bytesOf 2 (length (e .response)) ++ e .response) ++ q) 0
+
+  pub length-at : length (e .response) < 65536 → lengthAt whole (length p) ≡ length (e .response)
+  length-at h =
+      number-append p (entryBytes e ++ q) 1 2
+      ∙ ap (λ (l : List ℕ). numberAt (e .kind ∷ l) 1 2) (append-assoc (bytesOf 2 (length (e .response))) (e .response) q)
+      ∙ number-bytes 2 (length (e .response)) (e .response ++ q) h
+
+  pub next-at : length (e .response) < 65536 → nextEntry whole (length p) ≡ length (p ++ entryBytes e)
+  next-at h =
+      let a = length-append p (entryBytes e) in
+      let b = length-entry e in
+      ap (λ (n : ℕ). length p + 3 + n) (length-at h) ∙ (omega arith)
+
+  pub response-at : length (e .response) < 65536 → take (lengthAt whole (length p)) (drop (length p + 3) whole) ≡ e .response
+  response-at h =
+      rw (length-at h, drop-append-add p (entryBytes e ++ q) 3)
+      (ap (take (length (e .response))) (ap (drop 3) (ap (λ (l : List ℕ). e .kind ∷ l) (append-assoc (bytesOf 2 (length (e .response))) (e .response) q)))
+      ∙ take-append-seam (e .response) q)
+
+-- ---- all entries
+
+-- the response of entry k
+abbrev pub responseOf : List Entry → ℕ → List ℕ
+responseOf [] k = []
+responseOf (e ∷ es) zero = e .response
+responseOf (e ∷ es) (suc k) = responseOf es k
+
+fits-two : (e : Entry) → lengthFits (e .kind) (length (e .response)) ≡ true → length (e .response) < 65536
+fits-two e f = let c = fits-small (e .kind) (length (e .response)) f in omega arith
+
+-- the first entry, and the others behind it
+first-entry : (p : List ℕ) (e : Entry) (es : List Entry) (q : List ℕ) → p ++ (entriesBytes (e ∷ es) ++ q) ≡ whole p e (entriesBytes es ++ q)
+first-entry p e es q = ap (λ (l : List ℕ). p ++ l) (append-assoc (entryBytes e) (entriesBytes es) q)
+
+other-entries : (p : List ℕ) (e : Entry) (es : List Entry) (q : List ℕ) → (p ++ entryBytes e) ++ (entriesBytes es ++ q) ≡ whole p e (entriesBytes es ++ q)
+other-entries p e es q = append-assoc p (entryBytes e) (entriesBytes es ++ q)
+
+pub entries-well : (es : List Entry) (p q : List ℕ) (end : ℕ) → AllFit es → length p + length (entriesBytes es) ≡ end
+    → entriesOk (length es) (p ++ (entriesBytes es ++ q)) (length p) end ≡ true
+entries-well [] p q end f t = let z : length p ≡ end = sym (add-zero (length p)) ∙ t in eq-eqb (length p) end z
+entries-well (e ∷ es) p q end f t =
+    let l : List ℕ = whole p e (entriesBytes es ++ q) in
+    let h : length (e .response) < 65536 = fits-two e (f .1) in
+    let a = length-append p (entryBytes e) in
+    let b = length-append (entryBytes e) (entriesBytes es) in
+    let d = length-entry e in
+    let n : nextEntry l (length p) ≡ length (p ++ entryBytes e) = next-at p e (entriesBytes es ++ q) h in
+    let here : entryOk l (length p) end ≡ true =
+    entry-well l (length p) end
+    (record {
+      header = omega arith;
+      kind = rw (kind-at p e (entriesBytes es ++ q)) (f .0);
+      fits = rw (kind-at p e (entriesBytes es ++ q), length-at p e (entriesBytes es ++ q) h) (f .1);
+      next = omega arith;
+    }) in
+    let rest : entriesOk (length es) l (nextEntry l (length p)) end ≡ true =
+    rw n (rw (other-entries p e es q) at (entries-well es (p ++ entryBytes e) q end (f .2) (omega arith))) in
+    rw (first-entry p e es q, here) rest
+
+-- the place of entry k lies behind the entries before it, and its bytes are its response
+pub responses-back : (es : List Entry) (p q : List ℕ) → AllFit es → (k : ℕ) → k < length es
+    → take (lengthAt (p ++ (entriesBytes es ++ q)) (entryPlace k (p ++ (entriesBytes es ++ q)) (length p)))
+    (drop (entryPlace k (p ++ (entriesBytes es ++ q)) (length p) + 3) (p ++ (entriesBytes es ++ q))) ≡ responseOf es k
+responses-back [] p q f k h = absurd (let z : ⊥ = omega arith in z)
+responses-back (e ∷ es) p q f zero h = rw (first-entry p e es q) (response-at p e (entriesBytes es ++ q) (fits-two e (f .1)))
+responses-back (e ∷ es) p q f (suc k) h =
+    rw (first-entry p e es q, next-at p e (entriesBytes es ++ q) (fits-two e (f .1)))
+    (rw (other-entries p e es q) at (responses-back es (p ++ entryBytes e) q (f .2) k (le-of-suc-le-suc h)))
+
+-- ---- the trailer, and the whole log
+
+module _ (es : List Entry) (card l : List ℕ) (w : LaidOut es card l) where
+  abbrev front : List ℕ
+  front = entriesBytes es ++ card
+
+  abbrev offset : ℕ
+  offset = length (entriesBytes es)
+
+  front-length : length front ≡ offset + 2177
+  front-length = length-append (entriesBytes es) card ∙ ap (λ (n : ℕ). offset + n) (w .long)
+
+  behind : l ≡ front ++ logTrailer offset (length es)
+  behind = w .same ∙ sym (append-assoc (entriesBytes es) card (logTrailer offset (length es)))
+
+  pub log-length : length l ≡ offset + 2185
+  log-length =
+      let a = length-append front (logTrailer offset (length es)) in
+      let b = front-length in
+      ap length behind ∙ (omega arith)
+
+  -- a number, and a byte, of the trailer
+  trailer-number : (i width : ℕ) → numberAt l (offset + 2177 + i) width ≡ numberAt (logTrailer offset (length es)) i width
+  trailer-number i width =
+      rw (behind, ← front-length) (number-append front (logTrailer offset (length es)) i width)
+
+  trailer-byte : (i : ℕ) → at l (offset + 2177 + i) ≡ at (logTrailer offset (length es)) i
+  trailer-byte i = rw (behind, ← front-length) (getD-append-add front (logTrailer offset (length es)) i 0)
+
+  pub offset-is : offsetOf l ≡ offset
+  offset-is =
+      let a = log-length in
+      let b = entries-small es (w .fit) in
+      let c = w .few in
+      let e : length l - 8 ≡ offset + 2177 + 0 = omega arith in
+      ap (λ (i : ℕ). numberAt l i 4) e ∙ trailer-number 0 4 ∙ number-bytes 4 offset (bytesOf 2 (length es) ++ (0x4C ∷ 0x4F ∷ [])) (omega arith)
+
+  pub count-is : countOf l ≡ length es
+  count-is =
+      let a = log-length in
+      let c = w .few in
+      let e : length l - 4 ≡ offset + 2177 + 4 = omega arith in
+      ap (λ (i : ℕ). numberAt l i 2) e ∙ trailer-number 4 2 ∙ number-bytes 2 (length es) (0x4C ∷ 0x4F ∷ []) (omega arith)
+
+  trailer-is : Trailed l
+  trailer-is =
+      let a = log-length in
+      let e₂ : length l - 2 ≡ offset + 2177 + 6 = omega arith in
+      let e₁ : length l - 1 ≡ offset + 2177 + 7 = omega arith in
+      record {
+        long = omega arith;
+        first = ap (at l) e₂ ∙ trailer-byte 6;
+        second = ap (at l) e₁ ∙ trailer-byte 7;
+        few = rw count-is (w .few);
+        meets = rw offset-is (sym a);
+        stage = rw (offset-is, w .same, getD-append-add (entriesBytes es) (card ++ logTrailer offset (length es)) 2176 0, List·getD-append card (logTrailer offset (length es)) 0 2176 (omega arith)) (w .stage);
+      }
+
+  entries-are : entriesOk (length es) l 0 offset ≡ true
+  entries-are = rw (w .same) (entries-well es [] (card ++ logTrailer offset (length es)) offset (w .fit) (omega arith))
+
+  -- the log is accepted
+  pub written-valid : valid l ≡ true
+  unfolding valid
+  written-valid = rw (trailer-well l trailer-is, count-is, offset-is) entries-are
+
+  -- answer k is the response of entry k
+  pub written-answer : (k : ℕ) → k < length es → answerIn l (find l k) ≡ responseOf es k
+  unfolding find
+  written-answer k h = rw (written-valid, count-is, lt-ltb _ _ h) (rw (w .same) (responses-back es [] (card ++ logTrailer offset (length es)) (w .fit) k h))
+
+  -- and past the last entry there is none
+  pub written-none : (k : ℕ) → length es ≤ k → find l k ≡ missing noSuchAnswer
+  unfolding find
+  written-none k h = rw (written-valid, count-is, le-ltb _ _ h)
+
+  -- its card is the card that was written
+  pub written-card : take 2177 (drop (offsetOf l) l) ≡ card
+  written-card =
+      rw (offset-is, w .same, drop-append-seam (entriesBytes es) (card ++ logTrailer offset (length es)))
+      (take-at card (logTrailer offset (length es)) 2177 (w .long))

@@ -1,0 +1,112 @@
+-- The log ("Session and log"): how it is laid out, when it is accepted, and where an answer lies in it.
+use Prim.Native.Nat.{ℕ, zero, suc, _+_, _-_, _≤_}
+use mathlib.Core.Bool.{Bool, true, cond, not, _&&_}
+use mathlib.Core.List.{List, [], _∷_, _++_}
+use mathlib.Core.Path.{_≡_}
+use lib.Dec.{ltb, leb, eqb}
+use lib.ListN.{length, take, drop}
+use Rattle.model.specs.Lists.{at}
+use Rattle.model.specs.Numbers.{bytesOf, numberAt}
+use Rattle.model.specs.Record.{known}
+use Rattle.model.specs.Refusal.{notALog, noSuchAnswer}
+use Rattle.model.specs.Single.{isFuseByte}
+
+-- ---- the layout
+
+-- an entry: a record's kind and its response
+pub record Entry : Type 0 where
+  pub kind : ℕ
+  pub response : List ℕ
+
+-- its kind, the response's length in two bytes, the response
+abbrev pub entryBytes : Entry → List ℕ
+entryBytes e = e .kind ∷ (bytesOf 2 (length (e .response)) ++ e .response)
+
+abbrev pub entriesBytes : List Entry → List ℕ
+entriesBytes [] = []
+entriesBytes (e ∷ es) = entryBytes e ++ entriesBytes es
+
+-- the offset of the card, the count, $4C $4F
+abbrev pub logTrailer : ℕ → ℕ → List ℕ
+logTrailer offset count = bytesOf 4 offset ++ (bytesOf 2 count ++ (0x4C ∷ 0x4F ∷ []))
+
+-- the entries, the final card, the trailer
+abbrev pub logBytes : List Entry → List ℕ → List ℕ
+logBytes es card = entriesBytes es ++ (card ++ logTrailer (length (entriesBytes es)) (length es))
+
+-- the length of a response to a kind: 4 for 2, 1-256 for 4, 1-128 for 6, 1 for 8, else 0
+unfoldable pub lengthFits : ℕ → ℕ → Bool
+lengthFits kind n =
+    cond (eqb kind 2) (eqb n 4)
+    (cond (eqb kind 4) (leb 1 n && leb n 256)
+    (cond (eqb kind 6) (leb 1 n && leb n 128) (cond (eqb kind 8) (eqb n 1) (eqb n 0))))
+
+abbrev pub AllFit : List Entry → Type 0
+AllFit [] = Unit {0}
+AllFit (e ∷ es) = (known (e .kind) ≡ true) × (lengthFits (e .kind) (length (e .response)) ≡ true) × AllFit es
+
+-- what a log is the writing of
+pub record LaidOut (es : List Entry) (card l : List ℕ) : Type 0 where
+  pub few : length es ≤ 4096
+  pub fit : AllFit es
+  pub long : length card ≡ 2177
+  pub stage : isFuseByte (at card 2176) ≡ true
+  pub same : l ≡ logBytes es card
+
+-- ---- the check, by places in the log
+
+abbrev pub countOf : List ℕ → ℕ
+countOf l = numberAt l (length l - 4) 2
+
+abbrev pub offsetOf : List ℕ → ℕ
+offsetOf l = numberAt l (length l - 8) 4
+
+-- the response's length of the entry at a place, and the place past that entry
+abbrev pub lengthAt : List ℕ → ℕ → ℕ
+lengthAt l i = numberAt l (i + 1) 2
+
+abbrev pub nextEntry : List ℕ → ℕ → ℕ
+nextEntry l i = i + 3 + lengthAt l i
+
+-- an entry that ends by a place
+unfoldable pub entryOk : List ℕ → ℕ → ℕ → Bool
+entryOk l i end = leb (i + 3) end && (known (at l i) && (lengthFits (at l i) (lengthAt l i) && leb (nextEntry l i) end))
+
+-- n entries that end at a place
+abbrev pub entriesOk : ℕ → List ℕ → ℕ → ℕ → Bool
+entriesOk zero l i end = eqb i end
+entriesOk (suc n) l i end = entryOk l i end && entriesOk n l (nextEntry l i) end
+
+-- the trailer and the card before it
+unfoldable pub trailerOk : List ℕ → Bool
+trailerOk l =
+    leb 2185 (length l)
+    && (eqb (at l (length l - 2)) 0x4C
+    && (eqb (at l (length l - 1)) 0x4F
+    && (leb (countOf l) 4096 && (eqb (offsetOf l + 2185) (length l) && isFuseByte (at l (offsetOf l + 2176))))))
+
+unfoldable pub valid : List ℕ → Bool
+valid l = trailerOk l && entriesOk (countOf l) l 0 (offsetOf l)
+
+-- ---- an answer
+
+-- the place of the entry k entries past a place
+abbrev pub entryPlace : ℕ → List ℕ → ℕ → ℕ
+entryPlace zero l i = i
+entryPlace (suc k) l i = entryPlace k l (nextEntry l i)
+
+-- a refusal's number, or where an answer begins and how long it is
+pub data Found : Type 0 where
+  missing : ℕ → Found
+  lies : ℕ → ℕ → Found
+
+-- 13, 14, or where answer k lies
+unfoldable pub find : List ℕ → ℕ → Found
+find l k =
+    cond (not (valid l)) (missing notALog)
+    (cond (not (ltb k (countOf l))) (missing noSuchAnswer) (lies (entryPlace k l 0 + 3) (lengthAt l (entryPlace k l 0))))
+
+-- its bytes
+abbrev pub answerIn : List ℕ → Found → List ℕ
+answerIn l (missing n) = []
+answerIn l (lies from n) = take n (drop from l)
