@@ -5,7 +5,7 @@ use mathlib.Core.Bool.{Bool, true, false, cond}
 use mathlib.Core.List.{List, [], _∷_}
 use mathlib.Core.Path.{_≡_, refl}
 use native.Mathlib.Omega.{arith}
-use borrow.Author.Tests.{ltb-false}
+use borrow.Author.Tests.{ltb-false, le-ltb}
 use lib.Dec.{ltb}
 use lib.ListN.{length}
 use Rattle.model.specs.Refusal.{bytesLeft, noSpace}
@@ -15,7 +15,11 @@ use Rattle.model.specs.Call.{Acted, Powered, Decoded, refused, whole, Ca
 pub refused-whole : {K : Type 0} (r : ℕ) (k : K) (n : ℕ) → refused r ≡ whole k n → ⊥
 refused-whole r k n e = let z : _≡_ {A = ℕ} 0 1 = cc in omega arith
 
--- what stands behind a refusal in a chain of tests
+-- what stands behind a refusal in a chain of tests: of numbers, and of decoded records
+pub clear : (t : Bool) (r d : ℕ) → cond t (suc r) d ≡ 0 → (t ≡ false) × (d ≡ 0)
+clear true r d e = absurd (let z : ⊥ = omega arith in z)
+clear false r d e = (refl, e)
+
 pub past : {K : Type 0} (t : Bool) (r : ℕ) (d : Decoded K) (k : K) (n : ℕ) → cond t (refused r) d ≡ whole k n → (t ≡ false) × (d ≡ whole k n)
 past true r d k n e = absurd (refused-whole r k n e)
 past false r d k n e = (refl, e)
@@ -54,6 +58,11 @@ module _ {S K : Type 0} (check : List ℕ → S → ℕ) (decode : List ℕ → 
       let q = past-fitting c s (length (x .space)) _ k n (p .1) in
       let r = past-exact (x .sent) _ k n (q .0) in
       record { checks = p .0; decodes = r .0; exactly = r .1; fits = q .1 }
+
+  -- and it is carried out
+  pub carried-out : (c : List ℕ) (s : S) (x : Call) (k : K) (n : ℕ) → Admitted c s x k n → command check decode act c s x ≡ carried check decode act c s (x .space) (whole k n)
+  unfolding admission command
+  carried-out c s x k n a = rw (a .checks, a .decodes, le-ltb n (length (x .sent)) (a .exactly), le-ltb (length (x .space)) _ (a .fits))
 
   module _ (P : List ℕ → S → Type 0)
       (keeps : (c : List ℕ) (s : S) (k : K) (part : List ℕ) (n : ℕ) → decode part ≡ whole k n → P c s → P (act c s k .card) (act c s k .report .state)) where

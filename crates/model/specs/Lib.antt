@@ -19,7 +19,10 @@ pub mod RecordLaws
 pub mod Sane
 pub mod AccessLaws
 pub mod Numbers
+pub mod Reader
+pub mod ReaderLaws
 pub mod Log
+pub mod Session
 pub mod Loops
 pub mod Computed
 pub mod Cases

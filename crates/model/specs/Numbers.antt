@@ -2,11 +2,11 @@
 use Prim.Native.Nat.{ℕ, zero, suc, _+_, _*_, _/_, _%_, _^_, _≤_, _<_}
 use mathlib.Core.List.{List, [], _∷_, _++_}
 use mathlib.Core.Path.{_≡_, refl, sym, ap, _∙_}
-use native.Mathlib.Nat.{add-suc, add-zero, suc-add, zero-add, pow-suc, div-lt-iff-lt-mul}
+use native.Mathlib.Nat.{add-suc, add-zero, suc-add, pow-suc}
 use native.Mathlib.Numerals.{add-two}
 use native.Mathlib.Omega.{arith}
-use lib.ListN.{length, take, drop, set, length-append}
-use lib.Seq.{sets, length-sets, getD-append-add, drop-cons, take-set-le, take-set-lt, drop-set-lt, drop-set-add}
+use lib.ListN.{length, take, drop, set}
+use lib.Seq.{sets, getD-append-add, drop-cons}
 use Rattle.model.specs.Lists.{at, Bytes}
 
 -- n in w bytes

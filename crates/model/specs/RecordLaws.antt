@@ -2,12 +2,13 @@
 use Prim.Native.Nat.{ℕ, _+_, _≤_, _<_}
 use mathlib.Core.Bool.{Bool, true, false, cond, not}
 use mathlib.Core.List.{List}
-use mathlib.Core.Path.{_≡_, refl}
+use mathlib.Core.Path.{_≡_, refl, sym, ap, _∙_}
+use native.Mathlib.Nat.{le-refl}
 use native.Mathlib.Omega.{arith}
-use borrow.Author.Tests.{ltb-false, leb-true, eqb-false, not-true, not-false}
+use borrow.Author.Tests.{ltb-false, leb-true, eqb-false, not-true, not-false, ne-eqb, le-ltb}
 use lib.Dec.{ltb, leb, eqb}
-use lib.ListN.{length, take, drop, length-drop}
-use lib.Seq.{length-take-le}
+use lib.ListN.{length, take, drop, length-take, length-drop}
+use lib.Seq.{length-take-le, getD-take, take-add, drop-at, take-all}
 use Rattle.model.specs.Lists.{at, choice, and-left, and-right}
 use Rattle.model.specs.Tables.{each}
 use Rattle.model.specs.Call.{whole}
@@ -101,6 +102,85 @@ pub decode-fields : (part : List ℕ) (k : Command) (n : ℕ) → decode part �
 decode-fields part k n e =
     let a = accepted part k n e in
     rw (a .command) at (made-fields (at part 1) (at part 2) (dataOf part) (at part 0) (a .kind) (a .fields) (length-data part k n a))
+
+-- ---- a record's own bytes
+
+pub decode-whole : (part : List ℕ) (k : Command) (n : ℕ) → Accepted part k n → decode part ≡ whole k n
+unfolding decode
+decode-whole part k n a =
+    let w = a .within in
+    rw (ne-eqb (length part) 0 (λ e. omega arith), a .kind, le-ltb (length part) (dataAt part) (omega arith), a .fields, le-ltb (length part) (recordLength part) w, a .command, a .length)
+
+-- fixed fields that a kind does not have play no part
+record Alike (kind a n a′ n′ : ℕ) : Type 0 where
+  range : inRange kind a′ n′ ≡ inRange kind a n
+  size : dataLength kind n′ ≡ dataLength kind n
+  command : (xs : List ℕ) → made kind a′ n′ xs ≡ made kind a n xs
+
+module _ (a n a′ n′ : ℕ) where
+  alike : (kind : ℕ) → known kind ≡ true → (1 ≤ fixedFields kind → a′ ≡ a) → (2 ≤ fixedFields kind → n′ ≡ n) → Alike kind a n a′ n′
+  unfolding fixedFields inRange dataLength made
+  alike =
+      each-kind (λ kind. (1 ≤ fixedFields kind → a′ ≡ a) → (2 ≤ fixedFields kind → n′ ≡ n) → Alike kind a n a′ n′)
+      (λ p q. record { range = refl; size = refl; command = λ xs. refl })
+      (λ p q. record { range = refl; size = refl; command = λ xs. refl })
+      (λ p q. rw (p (omega arith)) (record { range = refl; size = refl; command = λ xs. refl }))
+      (λ p q. rw (p (omega arith), q (omega arith)) (record { range = refl; size = refl; command = λ xs. refl }))
+      (λ p q. rw (p (omega arith), q (omega arith)) (record { range = refl; size = refl; command = λ xs. refl }))
+      (λ p q. rw (p (omega arith), q (omega arith)) (record { range = refl; size = refl; command = λ xs. refl }))
+      (λ p q. rw (p (omega arith), q (omega arith)) (record { range = refl; size = refl; command = λ xs. refl }))
+      (λ p q. record { range = refl; size = refl; command = λ xs. refl })
+      (λ p q. record { range = refl; size = refl; command = λ xs. refl })
+      (λ p q. rw (p (omega arith)) (record { range = refl; size = refl; command = λ xs. refl }))
+      (λ p q. record { range = refl; size = refl; command = λ xs. refl })
+      (λ p q. rw (p (omega arith)) (record { range = refl; size = refl; command = λ xs. refl }))
+
+front-part : (i n : ℕ) (l : List ℕ) → i + n ≤ length l → take n (drop i (take (i + n) l)) ≡ take n (drop i l)
+front-part i n l h =
+    ap (λ (x : List ℕ). take n (drop i x)) (take-add i n l)
+    ∙ ap (take n) (drop-at (take i l) (take n (drop i l)) i (length-take-le i l (omega arith)))
+    ∙ take-all n (take n (drop i l)) (let e = length-take n (drop i l) in omega arith)
+
+-- the bytes of an accepted record alone give the same record
+pub decode-front : (part : List ℕ) (k : Command) (n : ℕ) → decode part ≡ whole k n → decode (take n part) ≡ whole k n
+decode-front part k n e =
+    decode-whole own k n
+    (record {
+      kind = rw at-kind (a .kind);
+      fields = rw at-kind (same .range ∙ a .fields);
+      within = rw (own-length, long) (le-refl n);
+      command = ap (λ (x : ℕ). made x (at own 1) (at own 2) (dataOf own)) at-kind ∙ same .command (dataOf own) ∙ ap (made (at part 0) (at part 1) (at part 2)) same-data ∙ a .command;
+      length = long;
+    })
+  where
+    own : List ℕ
+    own = take n part
+
+    a : Accepted part k n
+    a = accepted part k n e
+
+    own-length : length own ≡ n
+    own-length = length-take-le n part (let w = a .within in let l = a .length in omega arith)
+
+    at-own : (i : ℕ) → i < n → at own i ≡ at part i
+    at-own i h = getD-take n part i 0 h
+
+    at-kind : at own 0 ≡ at part 0
+    at-kind = at-own 0 (let l = a .length in omega arith)
+
+    same : Alike (at part 0) (at part 1) (at part 2) (at own 1) (at own 2)
+    same =
+        let l = a .length in
+        alike (at part 1) (at part 2) (at own 1) (at own 2) (at part 0) (a .kind) (λ h. at-own 1 (omega arith)) (λ h. at-own 2 (omega arith))
+
+    long : recordLength own ≡ n
+    long = rw (at-kind, same .size) (a .length)
+
+    same-data : dataOf own ≡ dataOf part
+    same-data =
+        rw (at-kind, same .size)
+        (ap (λ (m : ℕ). take (dataLength (at part 0) (at part 2)) (drop (dataAt part) (take m part))) (sym (a .length))
+        ∙ front-part (dataAt part) (dataLength (at part 0) (at part 2)) part (a .within))
 
 -- ---- how long a record can be
 

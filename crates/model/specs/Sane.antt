@@ -1,7 +1,7 @@
 -- What every command keeps of a card and its volatile state, for any device that meets a few laws, and for the AT88SC1608:
 -- lengths, bytes, a valid fuse byte, a state in range. So 11, 5 and 12 never arise after the first call.
-use Prim.Native.Nat.{ℕ, suc, _≤_, _<_, _/_}
-use mathlib.Core.Bool.{Bool, true, false, cond, not, _&&_}
+use Prim.Native.Nat.{ℕ, _≤_, _<_, _/_}
+use mathlib.Core.Bool.{true, false, not, _&&_}
 use mathlib.Core.List.{List}
 use mathlib.Core.Path.{_≡_, refl, sym, ap, _∙_}
 use native.Mathlib.Omega.{arith}
@@ -16,7 +16,7 @@ use Rattle.model.specs.Volatile.{Volatile}
 use Rattle.model.specs.Command.{Command, select, verifyPassword}
 use Rattle.model.specs.Device.{Device}
 use Rattle.model.specs.Call.{Powered, Call}
-use Rattle.model.specs.CallLaws.{list-keeps}
+use Rattle.model.specs.CallLaws.{clear, list-keeps}
 use Rattle.model.specs.Access.{pgo}
 use Rattle.model.specs.At88sc1608.{at88sc1608, fuses, registerOf, mayWrite, merge, blow}
 use Rattle.model.specs.Apply.{rules, kept}
@@ -164,24 +164,23 @@ pub check-good : (c : List ℕ) (s : Volatile) → Good c s → check c s ≡ 0
 unfolding checkOf
 check-good c s g = rw (eq-eqb _ _ (g .long), g .stage, g .range)
 
-past : (t : Bool) (r d : ℕ) → cond t (suc r) d ≡ 0 → (t ≡ false) × (d ≡ 0)
-past true r d e = absurd (let z : ⊥ = omega arith in z)
-past false r d e = (refl, e)
-
 pub good-check : (c : List ℕ) (s : Volatile) → check c s ≡ 0 → Good c s
 unfolding checkOf
 good-check c s e =
-    let p₁ = past (not (eqb (length c) 2177)) 10 _ e in
-    let p₂ = past (not (isFuseByte (at c 2176))) 4 _ (p₁ .1) in
-    let p₃ = past (not (stateInRange at88sc1608 s)) 11 0 (p₂ .1) in
+    let p₁ = clear (not (eqb (length c) 2177)) 10 _ e in
+    let p₂ = clear (not (isFuseByte (at c 2176))) 4 _ (p₁ .1) in
+    let p₃ = clear (not (stateInRange at88sc1608 s)) 11 0 (p₂ .1) in
     record { long = eqb-true _ _ (not-false _ (p₁ .0)); stage = not-false _ (p₂ .0); range = not-false _ (p₃ .0) }
 
--- every list of calls, of any bytes and lengths, leaves a good card and state good
-pub stays-good : (xs : List Call) (m : Powered Volatile) → Good (m .card) (m .state) → Good (final xs m .card) (final xs m .state)
-stays-good =
-    list-keeps check decode apply Good
-    (λ c s k part n e g. record {
+-- a command with its fields in range leaves a good card and state good
+pub good-after : (c : List ℕ) (s : Volatile) (k : Command) → Fields k → Good c s → Good (apply c s k .card) (apply c s k .report .state)
+good-after c s k f g =
+    record {
       long = card-length at88sc1608 c s k ∙ g .long;
       stage = card-fuses at88sc1608 sound c s k (g .stage);
-      range = state-range at88sc1608 sound Fields (λ z f. f) (λ j xs f. f .0) c s k (decode-fields part k n e) (g .range);
-    })
+      range = state-range at88sc1608 sound Fields (λ z f. f) (λ j xs f. f .0) c s k f (g .range);
+    }
+
+-- and so does every list of calls, of any bytes and lengths
+pub stays-good : (xs : List Call) (m : Powered Volatile) → Good (m .card) (m .state) → Good (final xs m .card) (final xs m .state)
+stays-good = list-keeps check decode apply Good (λ c s k part n e g. good-after c s k (decode-fields part k n e) g)

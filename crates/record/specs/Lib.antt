@@ -1,4 +1,3 @@
 pub mod Refusal
 pub mod Record
-pub mod Reader
-pub mod ReaderLaws
+pub mod RecordLaws

@@ -1,7 +1,7 @@
 // A reader that holds the session's bytes and a place in them.
 ghost use mathlib.Core.Path.{_≡_};
 ghost use lib.ListN.{length};
-ghost use Rattle.record.specs.Reader.{recordsEnd, partAt, nextOf, placeAfter};
+ghost use Rattle.model.specs.Reader.{recordsEnd, partAt, nextOf, placeAfter};
 ghost use Rattle.record.specs.Record.{decodedOf};
 use crate::decoder::Decoded;
 use crate::decoder::decode;

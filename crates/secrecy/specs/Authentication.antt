@@ -28,7 +28,7 @@ abbrev Locked : Volatile → Type 0
 Locked s = isGranted (s .authentication) ≡ false
 
 -- a place of the configuration, or the fuse byte, is not in the zone
-not-hidden : (z i : ℕ) → z < 8 → 2048 ≤ i → inZone z i ≡ false
+pub not-hidden : (z i : ℕ) → z < 8 → 2048 ≤ i → inZone z i ≡ false
 not-hidden z i zl l = ne-eqb (i / 256) z (λ q. omega arith)
 
 decides : (z : ℕ) → z < 8 → Open at88sc1608 (inZone z)

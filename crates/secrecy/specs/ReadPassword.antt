@@ -62,7 +62,7 @@ module _ (z p : ℕ) (zone : z < 8) (set : p < 8) where
       go false false q r e = at-password (8 + p) (omega arith) e
 
   -- a place of the configuration, or the fuse byte, that lies in no password of the set is not hidden
-  not-hidden : (i : ℕ) → 2048 ≤ i → ((k n : ℕ) → k % 8 ≡ p → i ≡ passwordByte k n → ⊥) → hidden i ≡ false
+  pub not-hidden : (i : ℕ) → 2048 ≤ i → ((k n : ℕ) → k % 8 ≡ p → i ≡ passwordByte k n → ⊥) → hidden i ≡ false
   not-hidden i l apart =
       rw (
         ne-eqb (i / 256) z (λ q. omega arith),

@@ -3,7 +3,7 @@ use mathlib.Core.Path.{refl}
 use native.Mathlib.Omega.{arith}
 use borrow.Author.Needs.{needs}
 use Rattle.model.specs.Apply as any
-use Rattle.record.specs.ReaderLaws.{between-some}
+use Rattle.record.specs.RecordLaws.{between-some}
 use Rattle.command.proofs.carry.carry_out.Statement.{statement}
 use Rattle.command.proofs.carry.carry_out.Tie as tie
 

@@ -1,6 +1,6 @@
 -- At or past the end there is no kind byte; before it the decoder is given the part.
 use borrow.Author.Needs.{needs}
-use Rattle.record.specs.ReaderLaws.{part-none}
+use Rattle.model.specs.ReaderLaws.{part-none}
 use Rattle.record.proofs.DecoderLaws.{no-kind}
 use Rattle.record.proofs.reader.next_at.Statement.{statement}
 use Rattle.record.proofs.reader.next_at.Tie as tie

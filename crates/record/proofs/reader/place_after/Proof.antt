@@ -2,8 +2,8 @@
 use mathlib.Core.Path.{sym, ap, _∙_}
 use native.Mathlib.Omega.{arith}
 use borrow.Author.Needs.{needs}
-use Rattle.record.specs.Reader.{partAt, past}
-use Rattle.record.specs.ReaderLaws.{next-within}
+use Rattle.model.specs.Reader.{partAt, past}
+use Rattle.model.specs.ReaderLaws.{next-within}
 use Rattle.record.specs.Record.{decodedOf}
 use Rattle.record.proofs.reader.place_after.Statement.{statement}
 use Rattle.record.proofs.reader.place_after.Tie as tie

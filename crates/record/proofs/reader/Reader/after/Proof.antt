@@ -35,7 +35,7 @@ use denote.Triple.Table.{entered, cited}
 use denote.Triple.Walked.{says, Stays, stay-none, walkOf, goes-none, Walks, ends-at, walked, walk-meets}
 use denote.Exit.{yes}
 use denote.Triple.Clauses.{ensured, lasts}
-use Rattle.record.specs.Reader.{placeAfter}
+use Rattle.model.specs.Reader.{placeAfter}
 use Rattle.record.specs.declared.reader.Reader.{Reader}
 use Rattle.record.proofs.ReaderParts.{B, Own, passed, twice, apart, moved}
 use Rattle.record.proofs.reader.Reader as T

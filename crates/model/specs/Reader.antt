@@ -1,12 +1,10 @@
 -- The reader over a session ("a reader that holds the session's bytes and a place in them").
 use Prim.Native.Nat.{ℕ, _+_, _-_}
-use mathlib.Core.Bool.{cond}
-use mathlib.Core.List.{List, []}
-use lib.Dec.{ltb}
+use mathlib.Core.List.{List}
 use lib.ListN.{length, take, drop}
 use Rattle.model.specs.Call.{Decoded, refused, whole}
 use Rattle.model.specs.Command.{Command}
 use Rattle.model.specs.Record.{decode}
 
 -- where the records end: where the trailer begins, or at 0 if there are fewer than eight bytes
 abbrev pub recordsEnd : ℕ → ℕ

@@ -1,0 +1,22 @@
+-- Laws of the reader: an accepted record lies before the end.
+use Prim.Native.Nat.{ℕ, _+_, _-_, _≤_}
+use mathlib.Core.List.{List}
+use mathlib.Core.Path.{_≡_, _∙_}
+use native.Mathlib.Omega.{arith}
+use lib.ListN.{length, length-take, length-drop}
+use Rattle.model.specs.Call.{whole}
+use Rattle.model.specs.Command.{Command}
+use Rattle.model.specs.RecordLaws.{decode-within}
+use Rattle.model.specs.Reader.{recordsEnd, partAt, nextOf}
+
+pub part-length : (s : List ℕ) (i : ℕ) → length (partAt s i) ≡ recordsEnd (length s) - i
+part-length s i = simp (length-take, length-drop) (omega arith)
+
+pub part-none : (s : List ℕ) (i : ℕ) → recordsEnd (length s) ≤ i → length (partAt s i) ≡ 0
+part-none s i h = part-length s i ∙ (omega arith)
+
+pub next-within : (s : List ℕ) (i : ℕ) (k : Command) (n : ℕ) → nextOf s i ≡ whole k n → (1 ≤ n) × (i + n ≤ recordsEnd (length s))
+next-within s i k n e =
+    let w = decode-within (partAt s i) k n e in
+    let l = part-length s i in
+    omega arith

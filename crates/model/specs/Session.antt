@@ -1,0 +1,134 @@
+-- Sessions ("Session and log", "Sent back with a number"): checked whole, then run, and what is logged.
+use Prim.Native.Nat.{ℕ, zero, suc, _+_, _-_}
+use mathlib.Core.Bool.{Bool, cond, not, _&&_}
+use mathlib.Core.List.{List, [], _∷_, _++_}
+use lib.Dec.{ltb, leb, eqb}
+use lib.ListN.{length, take, drop}
+use Rattle.model.specs.Lists.{at}
+use Rattle.model.specs.Numbers.{numberAt}
+use Rattle.model.specs.Volatile.{Volatile, powerUp}
+use Rattle.model.specs.Command.{Command, powerCycle, reset, select, readZone, writeZone, readConfiguration, writeConfiguration, readFuses, writeFuses, verifyPassword, beginAuthentication, verifyAuthentication}
+use Rattle.model.specs.Call.{Powered, powered, Decoded, refused, whole}
+use Rattle.model.specs.Refusal.{sessionLength, sessionTrailer, startOutOfRange, tooManyRecords, fuseByte, bytesLeft, noSpace}
+use Rattle.model.specs.Log.{Entry, logBytes}
+use Rattle.model.specs.Reader.{recordsEnd, nextOf}
+use Rattle.model.specs.Single.{isFuseByte, apply}
+
+-- ---- the frame: the card, free text, the records, the trailer
+
+abbrev pub cardOf : List ℕ → List ℕ
+cardOf s = take 2177 s
+
+-- the trailer: the start of the records, their count, $53 $45
+abbrev pub startOf : List ℕ → ℕ
+startOf s = numberAt s (length s - 8) 4
+
+abbrev pub countOf : List ℕ → ℕ
+countOf s = numberAt s (length s - 4) 2
+
+-- 1 to 5, each by itself
+abbrev pub wrongLength : List ℕ → Bool
+wrongLength s = not (leb 2185 (length s) && leb (length s) 65536)
+
+abbrev pub wrongTrailer : List ℕ → Bool
+wrongTrailer s = not (eqb (at s (length s - 2)) 0x53 && eqb (at s (length s - 1)) 0x45)
+
+abbrev pub wrongStart : List ℕ → Bool
+wrongStart s = not (leb 2177 (startOf s) && leb (startOf s) (length s - 8))
+
+abbrev pub wrongCount : List ℕ → Bool
+wrongCount s = ltb 4096 (countOf s)
+
+abbrev pub wrongFuses : List ℕ → Bool
+wrongFuses s = not (isFuseByte (at s 2176))
+
+-- in this order; 0 where none of them applies
+unfoldable pub frame : List ℕ → ℕ
+frame s =
+    cond (wrongLength s) sessionLength
+    (cond (wrongTrailer s) sessionTrailer
+    (cond (wrongStart s) startOutOfRange (cond (wrongCount s) tooManyRecords (cond (wrongFuses s) fuseByte 0))))
+
+-- ---- the records in turn
+
+-- what reading records finds: the number of the first refusal, or the commands and the place past them
+pub data Read : Type 0 where
+  stopped : ℕ → Read
+  all : List Command → ℕ → Read
+
+abbrev pub onDecoded : {A : Type 0} → Decoded Command → (ℕ → A) → (Command → ℕ → A) → A
+onDecoded (refused n) f g = f n
+onDecoded (whole k n) f g = g k n
+
+abbrev pub more : Command → Read → Read
+more k (stopped n) = stopped n
+more k (all ks i) = all (k ∷ ks) i
+
+-- n records from a place on
+abbrev pub readFrom : ℕ → List ℕ → ℕ → Read
+readFrom zero s i = all [] i
+readFrom (suc n) s i = onDecoded (nextOf s i) stopped (λ k m. more k (readFrom n s (i + m)))
+
+-- ---- the run
+
+abbrev pub kindOf : Command → ℕ
+kindOf powerCycle = 1
+kindOf reset = 2
+kindOf (select z) = 3
+kindOf (readZone a n) = 4
+kindOf (writeZone a xs) = 5
+kindOf (readConfiguration a n) = 6
+kindOf (writeConfiguration a xs) = 7
+kindOf readFuses = 8
+kindOf writeFuses = 9
+kindOf (verifyPassword k xs) = 10
+kindOf beginAuthentication = 11
+kindOf (verifyAuthentication v xs) = 12
+
+-- what a command logs, and what it leaves
+abbrev pub logged : Powered Volatile → Command → Entry
+logged m k = record { kind = kindOf k; response = apply (m .card) (m .state) k .report .answer }
+
+abbrev pub after : Powered Volatile → Command → Powered Volatile
+after m k = powered (apply (m .card) (m .state) k .card) (apply (m .card) (m .state) k .report .state)
+
+abbrev pub entriesOf : List Command → Powered Volatile → List Entry
+entriesOf [] m = []
+entriesOf (k ∷ ks) m = logged m k ∷ entriesOf ks (after m k)
+
+abbrev pub endOf : List Command → Powered Volatile → Powered Volatile
+endOf [] m = m
+endOf (k ∷ ks) m = endOf ks (after m k)
+
+-- a session's commands run on its card from power-up
+abbrev pub logOf : List ℕ → List Command → List ℕ
+logOf s ks = logBytes (entriesOf ks (powered (cardOf s) powerUp)) (endOf ks (powered (cardOf s) powerUp) .card)
+
+-- ---- what a session gives back and leaves: the refusal's number or 0, the log's length, the whole log space
+
+pub record Ran : Type 0 where
+  pub refusal : ℕ
+  pub length : ℕ
+  pub space : List ℕ
+
+abbrev pub rejected : ℕ → List ℕ → Ran
+rejected n space = record { refusal = n; length = 0; space = space }
+
+-- 10, or the log at the front of the space
+abbrev pub written : List ℕ → List ℕ → Ran
+written log space =
+    cond (ltb (length space) (length log)) (rejected noSpace space)
+    (record { refusal = 0; length = length log; space = log ++ drop (length log) space })
+
+-- 9, or the run
+abbrev pub ended : List ℕ → List ℕ → Read → Ran
+ended s space (stopped n) = rejected n space
+ended s space (all ks i) = cond (not (eqb i (recordsEnd (length s)))) (rejected bytesLeft space) (written (logOf s ks) space)
+
+-- the records, where the frame is well
+abbrev pub framed : List ℕ → List ℕ → ℕ → Ran
+framed s space zero = ended s space (readFrom (countOf s) s (startOf s))
+framed s space (suc n) = rejected (suc n) space
+
+unfoldable pub run : List ℕ → List ℕ → Ran
+run s space = framed s space (frame s)

@@ -1,0 +1,119 @@
+-- When a session is accepted, and what it then gives back and leaves.
+use Prim.Native.Nat.{ℕ, zero, suc, _+_, _-_, _≤_}
+use mathlib.Core.Bool.{Bool, true, false, cond, not}
+use mathlib.Core.List.{List, _++_}
+use mathlib.Core.Path.{_≡_, refl, ap, _∙_}
+use native.Mathlib.Omega.{arith}
+use borrow.Author.Tests.{eqb-true, leb-true, ltb-false, not-false, eq-eqb, le-ltb}
+use lib.Dec.{ltb, leb, eqb}
+use lib.ListN.{length, drop}
+use lib.Seq.{length-take-le, getD-take}
+use Rattle.model.specs.Lists.{at, and-left, and-right}
+use Rattle.model.specs.Volatile.{powerUp}
+use Rattle.model.specs.Command.{Command}
+use Rattle.model.specs.Call.{Decoded, refused, whole}
+use Rattle.model.specs.CallLaws.{clear}
+use Rattle.model.specs.Reader.{recordsEnd, partAt, nextOf}
+use Rattle.model.specs.Refusal.{bytesLeft, noSpace}
+use Rattle.model.specs.Sane.{Good}
+use Rattle.model.specs.Session.{cardOf, startOf, countOf, wrongLength, wrongTrailer, wrongStart, wrongCount, wrongFuses, frame, Read, stopped, all, onDecoded, more, readFrom, logOf, Ran, rejected, written, ended, framed, run}
+use Rattle.model.specs.Single.{isFuseByte}
+use Rattle.session.specs.SessionLaws.{refusal-nonzero}
+
+-- ---- the frame
+
+pub record Framed (s : List ℕ) : Type 0 where
+  pub long : 2185 ≤ length s
+  pub short : length s ≤ 65536
+  pub first : at s (length s - 2) ≡ 0x53
+  pub second : at s (length s - 1) ≡ 0x45
+  pub low : 2177 ≤ startOf s
+  pub high : startOf s ≤ length s - 8
+  pub few : countOf s ≤ 4096
+  pub stage : isFuseByte (at s 2176) ≡ true
+
+pub framed-well : (s : List ℕ) → frame s ≡ 0 → Framed s
+unfolding frame
+framed-well s e =
+    let p₁ = clear (wrongLength s) 0 _ e in
+    let p₂ = clear (wrongTrailer s) 1 _ (p₁ .1) in
+    let p₃ = clear (wrongStart s) 2 _ (p₂ .1) in
+    let p₄ = clear (wrongCount s) 3 _ (p₃ .1) in
+    let p₅ = clear (wrongFuses s) 4 0 (p₄ .1) in
+    let q₁ = not-false _ (p₁ .0) in
+    let q₂ = not-false _ (p₂ .0) in
+    let q₃ = not-false _ (p₃ .0) in
+    record {
+      long = leb-true _ _ (and-left (leb 2185 (length s)) _ q₁);
+      short = leb-true _ _ (and-right (leb 2185 (length s)) _ q₁);
+      first = eqb-true _ _ (and-left (eqb (at s (length s - 2)) 0x53) _ q₂);
+      second = eqb-true _ _ (and-right (eqb (at s (length s - 2)) 0x53) _ q₂);
+      low = leb-true _ _ (and-left (leb 2177 (startOf s)) _ q₃);
+      high = leb-true _ _ (and-right (leb 2177 (startOf s)) _ q₃);
+      few = ltb-false _ _ (p₄ .0);
+      stage = not-false _ (p₅ .0);
+    }
+
+-- the session's card, at power-up
+pub card-good : (s : List ℕ) → Framed s → Good (cardOf s) powerUp
+card-good s f =
+    record {
+      long = length-take-le 2177 s (let l = f .long in omega arith);
+      stage = rw (getD-take 2177 s 2176 0 (omega arith)) (f .stage);
+      range = refl;
+    }
+
+-- ---- the records
+
+pub read-nonzero : (n : ℕ) (s : List ℕ) (i r : ℕ) → readFrom n s i ≡ stopped r → r ≡ 0 → ⊥
+read-nonzero zero s i r e z = let w : _≡_ {A = ℕ} 0 1 = cc in omega arith
+read-nonzero (suc n) s i r e z = go (λ j q. read-nonzero n s j r q z) (nextOf s i) refl e
+  where
+    go₂ : (k : Command) (x : Read) → (x ≡ stopped r → ⊥) → more k x ≡ stopped r → ⊥
+    go₂ k (stopped y) h e = h e
+    go₂ k (all ks j) h e = let w : _≡_ {A = ℕ} 0 1 = cc in omega arith
+
+    go : ((j : ℕ) → readFrom n s j ≡ stopped r → ⊥) → (d : Decoded Command) → nextOf s i ≡ d
+        → onDecoded d stopped (λ k m. more k (readFrom n s (i + m))) ≡ stopped r → ⊥
+    go ih (refused x) q e = let w : x ≡ r = cc in refusal-nonzero (partAt s i) x q (w ∙ z)
+    go ih (whole k m) q e = go₂ k (readFrom n s (i + m)) (ih (i + m)) e
+
+-- ---- the session
+
+-- no refusal applies: the commands, and room for their log
+pub record Accepts (s space : List ℕ) (ks : List Command) : Type 0 where
+  pub frames : frame s ≡ 0
+  pub reads : readFrom (countOf s) s (startOf s) ≡ all ks (recordsEnd (length s))
+  pub room : length (logOf s ks) ≤ length space
+
+-- what is then given back and left
+abbrev pub accepting : List ℕ → List ℕ → Ran
+accepting log space = record { refusal = 0; length = length log; space = log ++ drop (length log) space }
+
+pub run-accepted : (s space : List ℕ) (ks : List Command) → Accepts s space ks → run s space ≡ accepting (logOf s ks) space
+unfolding run
+run-accepted s space ks a = rw (a .frames, a .reads, eq-eqb (recordsEnd (length s)) _ refl, le-ltb _ _ (a .room))
+
+pub accepted-run : (s space : List ℕ) → run s space .refusal ≡ 0 → (ks : List Command) × Accepts s space ks
+unfolding run
+accepted-run s space e = on-frame (frame s) refl e
+  where
+    on-room : (ks : List Command) (t : Bool) → frame s ≡ 0 → readFrom (countOf s) s (startOf s) ≡ all ks (recordsEnd (length s))
+        → ltb (length space) (length (logOf s ks)) ≡ t → cond t (rejected noSpace space) (accepting (logOf s ks) space) .refusal ≡ 0
+        → (ks : List Command) × Accepts s space ks
+    on-room ks true f r q e = absurd (let z : ⊥ = omega arith in z)
+    on-room ks false f r q e = (ks, record { frames = f; reads = r; room = ltb-false _ _ q })
+
+    on-end : (ks : List Command) (i : ℕ) (t : Bool) → frame s ≡ 0 → readFrom (countOf s) s (startOf s) ≡ all ks i → eqb i (recordsEnd (length s)) ≡ t
+        → cond (not t) (rejected bytesLeft space) (written (logOf s ks) space) .refusal ≡ 0 → (ks : List Command) × Accepts s space ks
+    on-end ks i true f r q e =
+        on-room ks (ltb (length space) (length (logOf s ks))) f (r ∙ ap (all ks) (eqb-true i (recordsEnd (length s)) q)) refl e
+    on-end ks i false f r q e = absurd (let z : ⊥ = omega arith in z)
+
+    on-read : (x : Read) → frame s ≡ 0 → readFrom (countOf s) s (startOf s) ≡ x → ended s space x .refusal ≡ 0 → (ks : List Command) × Accepts s space ks
+    on-read (stopped n) f r e = absurd (read-nonzero (countOf s) s (startOf s) n r e)
+    on-read (all ks i) f r e = on-end ks i (eqb i (recordsEnd (length s))) f r refl e
+
+    on-frame : (n : ℕ) → frame s ≡ n → framed s space n .refusal ≡ 0 → (ks : List Command) × Accepts s space ks
+    on-frame zero f e = on-read (readFrom (countOf s) s (startOf s)) f refl e
+    on-frame (suc n) f e = absurd (let z : ⊥ = omega arith in z)

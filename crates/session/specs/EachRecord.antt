@@ -1,0 +1,78 @@
+-- A single command does what the session does: with the card and the state that an accepted session has reached before record k,
+-- the bytes of record k and enough space, it gives the response that the log holds for k, and leaves the card and the state before
+-- record k + 1.
+use Prim.Native.Nat.{ℕ, zero, suc, _+_, _≤_, _<_}
+use mathlib.Core.List.{List, [], _∷_}
+use mathlib.Core.Path.{_≡_, refl, sym, ap, _∙_}
+use native.Mathlib.Nat.{le-of-suc-le-suc}
+use native.Mathlib.Omega.{arith}
+use lib.ListN.{length, take, length-take}
+use Rattle.model.specs.Lists.{Bytes}
+use Rattle.model.specs.Volatile.{Volatile}
+use Rattle.model.specs.Command.{Command}
+use Rattle.model.specs.Call.{Powered, reporting, Called, calling, replying, whole}
+use Rattle.model.specs.CallLaws.{Admitted, carried-out}
+use Rattle.model.specs.Log.{find, answerIn}
+use Rattle.model.specs.Reader.{recordsEnd, partAt, nextOf}
+use Rattle.model.specs.Record.{recordLength, decode}
+use Rattle.model.specs.RecordLaws.{Fields, accepted, decode-front}
+use Rattle.model.specs.Sane.{Good, check-good, good-after}
+use Rattle.model.specs.Session.{startOf, countOf, readFrom, all, after, logOf}
+use Rattle.model.specs.Single.{check, apply, command}
+use Rattle.session.specs.SessionLaws.{Every, read-first}
+use Rattle.session.specs.Conditions.{placePast}
+use Rattle.session.specs.Accepted.{Accepts, framed-well, card-good}
+use Rattle.session.specs.ReadBack.{start, reached, commandAt, all-fields, log-answer}
+
+-- the bytes of the record at a place
+abbrev pub recordAt : List ℕ → ℕ → List ℕ
+recordAt s i = take (recordLength (partAt s i)) (partAt s i)
+
+-- record k is command k, and its bytes alone are that record
+pub next-is : (n : ℕ) (s : List ℕ) (i : ℕ) (ks : List Command) (j : ℕ) → readFrom n s i ≡ all ks j → (k : ℕ) → k < n
+    → nextOf s (placePast k s i) ≡ whole (commandAt ks k) (recordLength (partAt s (placePast k s i)))
+next-is zero s i ks j e k h = absurd (let z : ⊥ = omega arith in z)
+next-is (suc n) s i ks j e zero h =
+    let f = read-first n s i ks j e in
+    rw (f .list) (f .next ∙ ap (whole (f .command)) (sym (accepted (partAt s i) (f .command) (f .length) (f .next) .length)))
+next-is (suc n) s i ks j e (suc k) h =
+    let f = read-first n s i ks j e in
+    let l : recordLength (partAt s i) ≡ f .length = accepted (partAt s i) (f .command) (f .length) (f .next) .length in
+    rw (f .list, l) (next-is n s (i + f .length) (f .others) j (f .rest) k (le-of-suc-le-suc h))
+
+pub record-is : (s : List ℕ) (i : ℕ) (k : Command) → nextOf s i ≡ whole k (recordLength (partAt s i)) → decode (recordAt s i) ≡ whole k (recordLength (partAt s i))
+record-is s i k e = decode-front (partAt s i) k (recordLength (partAt s i)) e
+
+-- what is reached before record k + 1 is what command k leaves
+reached-after : (ks : List Command) (m : Powered Volatile) (k : ℕ) → k < length ks → reached ks m (suc k) ≡ after (reached ks m k) (commandAt ks k)
+reached-after [] m k h = absurd (let z : ⊥ = omega arith in z)
+reached-after (x ∷ ks) m zero h = refl
+reached-after (x ∷ ks) m (suc k) h = reached-after ks (after m x) k (le-of-suc-le-suc h)
+
+reached-good : (ks : List Command) (m : Powered Volatile) (k : ℕ) → Every Fields ks → Good (m .card) (m .state) → Good (reached ks m k .card) (reached ks m k .state)
+reached-good ks m zero f g = g
+reached-good [] m (suc k) f g = g
+reached-good (x ∷ ks) m (suc k) f g = reached-good ks (after m x) k (f .1) (good-after (m .card) (m .state) x (f .0) g)
+
+-- what a single command leaves that gives a response
+abbrev pub leaving : Powered Volatile → List ℕ → List ℕ → Called Volatile
+leaving m answer space = record { card = m .card; reply = replying space (reporting (m .state) answer) }
+
+module _ (s log : List ℕ) (ks : List Command) (bytes : Bytes s) (a : Accepts s log ks) where
+  pub single : (k : ℕ) → k < countOf s → (space : List ℕ) → length (answerIn (logOf s ks) (find (logOf s ks) k)) ≤ length space
+      → command (reached ks (start s) k .card) (reached ks (start s) k .state) (calling (recordAt s (placePast k s (startOf s))) space)
+      ≡ leaving (reached ks (start s) (suc k)) (answerIn (logOf s ks) (find (logOf s ks) k)) space
+  single k h space room =
+      let m : Powered Volatile = reached ks (start s) k in
+      let r : List ℕ = recordAt s (placePast k s (startOf s)) in
+      let q = log-answer s log ks bytes a k h in
+      let fields = all-fields s log ks bytes a in
+      let admitted : Admitted check decode apply (m .card) (m .state) (calling r space) (commandAt ks k) (recordLength (partAt s (placePast k s (startOf s)))) =
+      record {
+        checks = check-good (m .card) (m .state) (reached-good ks (start s) k (fields .every) (card-good s (framed-well s (a .frames))));
+        decodes = record-is s (placePast k s (startOf s)) (commandAt ks k) (next-is (countOf s) s (startOf s) ks (recordsEnd (length s)) (a .reads) k h);
+        exactly = let l = length-take (recordLength (partAt s (placePast k s (startOf s)))) (partAt s (placePast k s (startOf s))) in omega arith;
+        fits = rw q at room;
+      } in
+      carried-out check decode apply (m .card) (m .state) (calling r space) (commandAt ks k) _ admitted
+      ∙ rw (q, reached-after ks (start s) k (rw (fields .number) h))

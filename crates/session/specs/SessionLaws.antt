@@ -1,0 +1,153 @@
+-- Laws of reading a session's records and of running them.
+use Prim.Native.Nat.{ℕ, zero, suc, _+_, _≤_, _<_}
+use mathlib.Core.Bool.{Bool, true, false, cond, not, _&&_}
+use mathlib.Core.List.{List, [], _∷_}
+use mathlib.Core.Path.{_≡_, refl, sym, ap, _∙_}
+use native.Mathlib.Omega.{arith}
+use borrow.Author.Tests.{eqb-false, leb-true, le-leb}
+use lib.Dec.{ltb, leb, eqb}
+use lib.ListN.{length, take, drop, length-append}
+use Rattle.model.specs.Lists.{at, Bytes, and-left, and-right}
+use Rattle.model.specs.Volatile.{Volatile}
+use Rattle.model.specs.Command.{Command}
+use Rattle.model.specs.Call.{Powered, Decoded, refused, whole}
+use Rattle.model.specs.At88sc1608.{at88sc1608}
+use Rattle.model.specs.Effects.{answerLength, answer-length}
+use Rattle.model.specs.Log.{entriesBytes, lengthFits, AllFit}
+use Rattle.model.specs.Reader.{recordsEnd, nextOf}
+use Rattle.model.specs.ReaderLaws.{next-within}
+use Rattle.model.specs.Record.{known, inRange, dataLength, made, dataAt, recordLength, decode}
+use Rattle.model.specs.RecordLaws.{accepted, each-kind, Fields}
+use Rattle.model.specs.Sane.{Good, card-length, good-after}
+use Rattle.model.specs.Session.{Read, stopped, all, onDecoded, more, readFrom, kindOf, after, entriesOf, endOf}
+
+-- ---- one record
+
+-- a decoder's refusal is not 0
+pub refusal-nonzero : (part : List ℕ) (n : ℕ) → decode part ≡ refused n → n ≡ 0 → ⊥
+unfolding decode
+refusal-nonzero part n e z = go (eqb (length part) 0) (not (known (at part 0))) (ltb (length part) (dataAt part)) (not (inRange (at part 0) (at part 1) (at part 2))) (ltb (length part) (recordLength part)) _ _ e
+  where
+    go : (a b c d f : Bool) (k : Command) (m : ℕ) → cond a (refused 8) (cond b (refused 6) (cond c (refused 8) (cond d (refused 7) (cond f (refused 8) (whole k m))))) ≡ refused n → ⊥
+    go true b c d f k m e = let q : 8 ≡ n = cc in omega arith
+    go false true c d f k m e = let q : 6 ≡ n = cc in omega arith
+    go false false true d f k m e = let q : 8 ≡ n = cc in omega arith
+    go false false false true f k m e = let q : 7 ≡ n = cc in omega arith
+    go false false false false true k m e = let q : 8 ≡ n = cc in omega arith
+    go false false false false false k m e = let q : _≡_ {A = ℕ} 0 1 = cc in omega arith
+
+-- an answer is as long as the log takes for its kind
+abbrev pub Logs : Command → Type 0
+Logs k = (known (kindOf k) ≡ true) × (lengthFits (kindOf k) (answerLength at88sc1608 k) ≡ true)
+
+made-logs : (a n : ℕ) (xs : List ℕ) → n < 256 → (kind : ℕ) → known kind ≡ true → inRange kind a n ≡ true → Logs (made kind a n xs)
+unfolding inRange made lengthFits
+made-logs a n xs h =
+    each-kind (λ kind. inRange kind a n ≡ true → Logs (made kind a n xs))
+    (λ r. (refl, refl))
+    (λ r. (refl, refl))
+    (λ r. (refl, refl))
+    (λ r. (refl, read-count (eqb n 0) refl))
+    (λ r. (refl, refl))
+    (λ r. (refl, read-configuration-count r))
+    (λ r. (refl, refl))
+    (λ r. (refl, refl))
+    (λ r. (refl, refl))
+    (λ r. (refl, refl))
+    (λ r. (refl, refl))
+    (λ r. (refl, refl))
+  where
+    read-configuration-count : (leb a 127 && (leb 1 n && leb (a + n) 128)) ≡ true → (leb 1 n && leb n 128) ≡ true
+    read-configuration-count r =
+        let s = and-right (leb a 127) _ r in
+        let w = leb-true (a + n) 128 (and-right (leb 1 n) _ s) in
+        rw (and-left (leb 1 n) _ s, le-leb n 128 (omega arith))
+
+    read-count : (t : Bool) → eqb n 0 ≡ t → (leb 1 (cond t 256 n) && leb (cond t 256 n) 256) ≡ true
+    read-count true e = refl
+    read-count false e = let ne = eqb-false n 0 e in rw (le-leb 1 n (omega arith), le-leb n 256 (omega arith))
+
+pub decode-logs : (part : List ℕ) → Bytes part → (k : Command) (n : ℕ) → decode part ≡ whole k n → Logs k
+decode-logs part b k n e =
+    let a = accepted part k n e in
+    rw (a .command) at (made-logs (at part 1) (at part 2) (take (dataLength (at part 0) (at part 2)) (drop (dataAt part) part)) (b 2) (at part 0) (a .kind) (a .fields))
+
+-- ---- the records of a session
+
+-- the first of them, and the others behind it
+pub record First (n : ℕ) (s : List ℕ) (i : ℕ) (ks : List Command) (j : ℕ) : Type 0 where
+  pub command : Command
+  pub length : ℕ
+  pub others : List Command
+  pub next : nextOf s i ≡ whole command length
+  pub list : ks ≡ command ∷ others
+  pub rest : readFrom n s (i + length) ≡ all others j
+
+pub read-first : (n : ℕ) (s : List ℕ) (i : ℕ) (ks : List Command) (j : ℕ) → readFrom (suc n) s i ≡ all ks j → First n s i ks j
+read-first n s i ks j e = go (nextOf s i) refl e
+  where
+    go₂ : (k : Command) (m : ℕ) (r : Read) → nextOf s i ≡ whole k m → readFrom n s (i + m) ≡ r → more k r ≡ all ks j → First n s i ks j
+    go₂ k m (stopped x) q p e = absurd (let z : _≡_ {A = ℕ} 0 1 = cc in let w : ⊥ = omega arith in w)
+    go₂ k m (all ls x) q p e =
+        let a : k ∷ ls ≡ ks = cc in
+        let b : x ≡ j = cc in
+        record { command = k; length = m; others = ls; next = q; list = sym a; rest = p ∙ ap (all ls) b }
+
+    go : (d : Decoded Command) → nextOf s i ≡ d → onDecoded d stopped (λ k m. more k (readFrom n s (i + m))) ≡ all ks j → First n s i ks j
+    go (refused r) q e = absurd (let z : _≡_ {A = ℕ} 0 1 = cc in let w : ⊥ = omega arith in w)
+    go (whole k m) q e = go₂ k m (readFrom n s (i + m)) q refl e
+
+pub read-none : (s : List ℕ) (i : ℕ) (ks : List Command) (j : ℕ) → readFrom 0 s i ≡ all ks j → (ks ≡ []) × (i ≡ j)
+read-none s i ks j e = (cc, cc)
+
+-- a property of every command of a list
+abbrev pub Every : (Command → Type 0) → List Command → Type 0
+Every P [] = Unit {0}
+Every P (k ∷ ks) = P k × Every P ks
+
+pub record Readings (P : Command → Type 0) (n : ℕ) (s : List ℕ) (ks : List Command) (j : ℕ) : Type 0 where
+  pub number : length ks ≡ n
+  pub within : j ≤ recordsEnd (length s)
+  pub every : Every P ks
+
+-- what every decoded record has, all records that were read have
+pub readings : (P : Command → Type 0) (s : List ℕ) → ((i : ℕ) (k : Command) (m : ℕ) → nextOf s i ≡ whole k m → P k)
+    → (n i : ℕ) (ks : List Command) (j : ℕ) → i ≤ recordsEnd (length s) → readFrom n s i ≡ all ks j → Readings P n s ks j
+readings P s h zero i ks j l e =
+    let q = read-none s i ks j e in
+    rw (q .0) (record { number = refl; within = let b = q .1 in omega arith; every = tt })
+readings P s h (suc n) i ks j l e =
+    let f = read-first n s i ks j e in
+    let w = next-within s i (f .command) (f .length) (f .next) in
+    let r = readings P s h n (i + f .length) (f .others) j (w .1) (f .rest) in
+    rw (f .list) (record { number = ap suc (r .number); within = r .within; every = (h i (f .command) (f .length) (f .next), r .every) })
+
+-- ---- the run
+
+-- what a good card and state become under commands with fields in range
+pub end-good : (ks : List Command) (m : Powered Volatile) → Every Fields ks → Good (m .card) (m .state) → Good (endOf ks m .card) (endOf ks m .state)
+end-good [] m f g = g
+end-good (k ∷ ks) m f g = end-good ks (after m k) (f .1) (good-after (m .card) (m .state) k (f .0) g)
+
+pub entries-length : (ks : List Command) (m : Powered Volatile) → length (entriesOf ks m) ≡ length ks
+entries-length [] m = refl
+entries-length (k ∷ ks) m = ap suc (entries-length ks (after m k))
+
+pub entries-fit : (ks : List Command) (m : Powered Volatile) → Every Logs ks → AllFit (entriesOf ks m)
+entries-fit [] m f = tt
+entries-fit (k ∷ ks) m f = (f .0 .0, rw (answer-length at88sc1608 (m .card) (m .state) k) (f .0 .1), entries-fit ks (after m k) (f .1))
+
+-- ---- lengths
+
+pub end-length : (ks : List Command) (m : Powered Volatile) → length (endOf ks m .card) ≡ length (m .card)
+end-length [] m = refl
+end-length (k ∷ ks) m = end-length ks (after m k) ∙ card-length at88sc1608 (m .card) (m .state) k
+
+-- an entry's length depends on its command alone
+pub entry-length : (k : Command) (ks : List Command) (m : Powered Volatile) → length (entriesBytes (entriesOf (k ∷ ks) m)) ≡ 3 + answerLength at88sc1608 k + length (entriesBytes (entriesOf ks (after m k)))
+entry-length k ks m = simp (length-append, answer-length at88sc1608 (m .card) (m .state) k) (omega arith)
+
+pub entries-long : (ks : List Command) (m₁ m₂ : Powered Volatile) → length (entriesBytes (entriesOf ks m₁)) ≡ length (entriesBytes (entriesOf ks m₂))
+entries-long [] m₁ m₂ = refl
+entries-long (k ∷ ks) m₁ m₂ =
+    entry-length k ks m₁ ∙ ap (λ (n : ℕ). 3 + answerLength at88sc1608 k + n) (entries-long ks (after m₁ k) (after m₂ k)) ∙ sym (entry-length k ks m₂)

@@ -1,0 +1,1 @@
+// Sessions: checked whole, run, logged.
