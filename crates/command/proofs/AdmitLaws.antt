@@ -2,12 +2,12 @@
 use Prim.Native.Nat.{ℕ, _≤_, _<_}
 use mathlib.Core.Bool.{Bool, true, false, not}
 use mathlib.Core.List.{List, []}
-use mathlib.Core.Path.{_≡_, refl, sym, _∙_}
+use mathlib.Core.Path.{_≡_, sym, _∙_}
 use borrow.Author.Tests.{lt-ltb, le-ltb, eq-eqb, ne-eqb}
 use lib.ListN.{length}
 use Rattle.model.specs.Lists.{at}
 use Rattle.model.specs.Volatile.{Volatile}
-use Rattle.model.specs.Call.{Decoded, refused, whole, checked}
+use Rattle.model.specs.Call.{refused, whole}
 use Rattle.model.specs.Call as calls
 use Rattle.model.specs.At88sc1608.{at88sc1608}
 use Rattle.model.specs.Effects.{answerLength, answer-length}
@@ -15,11 +15,10 @@ use Rattle.model.specs.Record.{decode}
 use Rattle.model.specs.Refusal.{cardLength, fuseByte, stateOutOfRange, bytesLeft, noSpace}
 use Rattle.model.specs.Single.{isFuseByte, stateInRange, checkOf, check, apply, admission}
 use Rattle.record.specs.Record.{commandOf}
-use Rattle.record.specs.Refusal.{refusalNumber}
+use Rattle.record.specs.Refusal.{refusalNumber, number-some}
 use Rattle.record.specs.declared.decoder.Record.{Record}
-use Rattle.record.specs.declared.decoder.Record.the-variants as kind
 use Rattle.record.specs.declared.refusal.Refusal.{Refusal}
-use Rattle.record.specs.declared.refusal.Refusal.the-variants as refusal
+use Rattle.command.specs.Alone.{answer-alone}
 
 -- ---- the checks
 
@@ -44,42 +43,10 @@ module _ (c : List ℕ) (s : Volatile) where
 
 -- ---- admission
 
--- no refusal has the number 0
-checked-refusal : {K : Type 0} (why : Refusal) (d : Decoded K) → refused (refusalNumber why) ≡ checked (refusalNumber why) d
-checked-refusal refusal.SessionLength d = refl
-checked-refusal refusal.SessionTrailer d = refl
-checked-refusal refusal.StartOutOfRange d = refl
-checked-refusal refusal.TooManyRecords d = refl
-checked-refusal refusal.FuseByte d = refl
-checked-refusal refusal.UnknownKind d = refl
-checked-refusal refusal.FieldOutOfRange d = refl
-checked-refusal refusal.CutShort d = refl
-checked-refusal refusal.BytesLeft d = refl
-checked-refusal refusal.NoSpace d = refl
-checked-refusal refusal.CardLength d = refl
-checked-refusal refusal.StateOutOfRange d = refl
-checked-refusal refusal.NotALog d = refl
-checked-refusal refusal.NoSuchAnswer d = refl
-
--- a record's answer is as long whatever its data
-pub answer-alone : (bytes : List ℕ) (n : ℕ) (r : Record) → answerLength at88sc1608 (commandOf bytes n r) ≡ answerLength at88sc1608 (commandOf [] 0 r)
-answer-alone bytes n kind.PowerCycle = refl
-answer-alone bytes n kind.Reset = refl
-answer-alone bytes n (kind.Select z) = refl
-answer-alone bytes n (kind.ReadZone a m) = refl
-answer-alone bytes n (kind.WriteZone a) = refl
-answer-alone bytes n (kind.ReadConfiguration a m) = refl
-answer-alone bytes n (kind.WriteConfiguration a) = refl
-answer-alone bytes n kind.ReadFuses = refl
-answer-alone bytes n kind.WriteFuses = refl
-answer-alone bytes n (kind.VerifyPassword k) = refl
-answer-alone bytes n kind.BeginAuthentication = refl
-answer-alone bytes n (kind.VerifyAuthentication v) = refl
-
 module _ (c : List ℕ) (s : Volatile) (bytes : List ℕ) (room : ℕ) where
   pub check-refused : (why : Refusal) → refusalNumber why ≡ check c s → refused (refusalNumber why) ≡ admission c s bytes room
   unfolding calls.admission
-  check-refused why e = rw (← e) (checked-refusal why _)
+  check-refused why e = rw (← e, number-some why .1)
 
   module _ (passed : 0 ≡ check c s) where
     pub record-refused : (n : ℕ) → refused n ≡ decode bytes → refused n ≡ admission c s bytes room

@@ -1,3 +1,4 @@
+pub mod Alone
 pub mod Reply
 pub mod Carried
 pub mod Injective

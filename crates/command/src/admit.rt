@@ -55,16 +55,16 @@ pub fn check(card: &[u8], state: Volatile) -> Outcome
 }
 
 // How long the answer to a record is.
-pub fn answer_length(record: Record) -> usize
+pub fn answer_length(record: Record) -> u16
     ensures { λ r. ⌜ r ≡ answerLength at88sc1608 (commandOf [] 0 «record») ⌝ }
 {
     match record {
         Record::PowerCycle => 0,
         Record::Reset => 4,
         Record::Select(_) => 0,
-        Record::ReadZone(_, count) => count as usize,
+        Record::ReadZone(_, count) => count,
         Record::WriteZone(_) => 0,
-        Record::ReadConfiguration(_, count) => count as usize,
+        Record::ReadConfiguration(_, count) => count as u16,
         Record::WriteConfiguration(_) => 0,
         Record::ReadFuses => 1,
         Record::WriteFuses => 0,
@@ -87,7 +87,7 @@ pub fn admit(card: &[u8], state: Volatile, record: &[u8], room: usize) -> Decode
             if end < record.len() {
                 return Decoded::Refused(Refusal::BytesLeft);
             }
-            if room < answer_length(kind) {
+            if room < answer_length(kind) as usize {
                 return Decoded::Refused(Refusal::NoSpace);
             }
             Decoded::Whole(kind, end)

@@ -38,7 +38,7 @@ pub fn command(card: &mut [u8], state: Volatile, record: &[u8], response: &mut [
             state,
         },
         Decoded::Whole(kind, end) => {
-            let length = answer_length(kind);
+            let length = answer_length(kind) as usize;
             let after = carry_out(card, state, kind, record, end, response);
             Reply {
                 outcome: Outcome::Accepted,

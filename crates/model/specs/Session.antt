@@ -100,9 +100,12 @@ abbrev pub endOf : List Command → Powered Volatile → Powered Volatile
 endOf [] m = m
 endOf (k ∷ ks) m = endOf ks (after m k)
 
--- a session's commands run on its card from power-up
+-- a session's card at power-up, and the log of its commands run from there
+abbrev pub initial : List ℕ → Powered Volatile
+initial s = powered (cardOf s) powerUp
+
 abbrev pub logOf : List ℕ → List Command → List ℕ
-logOf s ks = logBytes (entriesOf ks (powered (cardOf s) powerUp)) (endOf ks (powered (cardOf s) powerUp) .card)
+logOf s ks = logBytes (entriesOf ks (initial s)) (endOf ks (initial s) .card)
 
 -- ---- what a session gives back and leaves: the refusal's number or 0, the log's length, the whole log space
 

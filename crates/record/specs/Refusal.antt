@@ -1,5 +1,6 @@
 -- The paper's number of each refusal.
-use Prim.Native.Nat.{ℕ}
+use Prim.Native.Nat.{ℕ, suc}
+use mathlib.Core.Path.{_≡_, refl}
 use Rattle.model.specs.Refusal as model
 use Rattle.record.specs.declared.refusal.Refusal.{Refusal}
 use Rattle.record.specs.declared.refusal.Refusal.the-variants as refusal
@@ -19,3 +20,20 @@ refusalNumber refusal.CardLength = model.cardLength
 refusalNumber refusal.StateOutOfRange = model.stateOutOfRange
 refusalNumber refusal.NotALog = model.notALog
 refusalNumber refusal.NoSuchAnswer = model.noSuchAnswer
+
+-- none of them is 0
+pub number-some : (why : Refusal) → (n : ℕ) × (refusalNumber why ≡ suc n)
+number-some refusal.SessionLength = (0, refl)
+number-some refusal.SessionTrailer = (1, refl)
+number-some refusal.StartOutOfRange = (2, refl)
+number-some refusal.TooManyRecords = (3, refl)
+number-some refusal.FuseByte = (4, refl)
+number-some refusal.UnknownKind = (5, refl)
+number-some refusal.FieldOutOfRange = (6, refl)
+number-some refusal.CutShort = (7, refl)
+number-some refusal.BytesLeft = (8, refl)
+number-some refusal.NoSpace = (9, refl)
+number-some refusal.CardLength = (10, refl)
+number-some refusal.StateOutOfRange = (11, refl)
+number-some refusal.NotALog = (12, refl)
+number-some refusal.NoSuchAnswer = (13, refl)

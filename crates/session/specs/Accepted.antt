@@ -4,7 +4,7 @@ use mathlib.Core.Bool.{Bool, true, false, cond, not}
 use mathlib.Core.List.{List, _++_}
 use mathlib.Core.Path.{_≡_, refl, ap, _∙_}
 use native.Mathlib.Omega.{arith}
-use borrow.Author.Tests.{eqb-true, leb-true, ltb-false, not-false, eq-eqb, le-ltb}
+use borrow.Author.Tests.{eqb-true, leb-true, ltb-false, not-false, eq-eqb, le-ltb, le-leb}
 use lib.Dec.{ltb, leb, eqb}
 use lib.ListN.{length, drop}
 use lib.Seq.{length-take-le, getD-take}
@@ -53,6 +53,20 @@ framed-well s e =
       few = ltb-false _ _ (p₄ .0);
       stage = not-false _ (p₅ .0);
     }
+
+pub well-framed : (s : List ℕ) → Framed s → frame s ≡ 0
+unfolding frame
+well-framed s f =
+    rw (
+      le-leb _ _ (f .long),
+      le-leb _ _ (f .short),
+      eq-eqb _ _ (f .first),
+      eq-eqb _ _ (f .second),
+      le-leb _ _ (f .low),
+      le-leb _ _ (f .high),
+      le-ltb _ _ (f .few),
+      f .stage,
+    )
 
 -- the session's card, at power-up
 pub card-good : (s : List ℕ) → Framed s → Good (cardOf s) powerUp

@@ -11,17 +11,17 @@ use lib.Dec.{ltb, leb, eqb}
 use lib.ListN.{length, take, drop, length-append}
 use lib.Seq.{length-take-le}
 use Rattle.model.specs.Lists.{at, and-left}
-use Rattle.model.specs.Volatile.{Volatile, powerUp}
+use Rattle.model.specs.Volatile.{Volatile}
 use Rattle.model.specs.Command.{Command}
 use Rattle.model.specs.At88sc1608.{at88sc1608}
-use Rattle.model.specs.Call.{Powered, powered, Decoded, refused, whole}
+use Rattle.model.specs.Call.{Powered, Decoded, refused, whole}
 use Rattle.model.specs.Effects.{answerLength}
 use Rattle.model.specs.Log.{entriesBytes}
 use Rattle.model.specs.Reader.{recordsEnd, partAt, nextOf}
 use Rattle.model.specs.Record.{known, inRange, dataLength, made, dataAt, recordLength, decode}
 use Rattle.model.specs.RecordLaws.{accepted, each-kind}
 use Rattle.model.specs.Refusal.{sessionLength, sessionTrailer, startOutOfRange, tooManyRecords, fuseByte, unknownKind, fieldOutOfRange, cutShort, bytesLeft, noSpace}
-use Rattle.model.specs.Session.{cardOf, startOf, countOf, wrongLength, wrongTrailer, wrongStart, wrongCount, wrongFuses, frame, Read, stopped, all, onDecoded, more, readFrom, after, entriesOf, logOf, rejected, ended, framed, run}
+use Rattle.model.specs.Session.{startOf, countOf, wrongLength, wrongTrailer, wrongStart, wrongCount, wrongFuses, frame, Read, stopped, all, onDecoded, more, readFrom, after, entriesOf, logOf, rejected, ended, framed, run, initial}
 use Rattle.session.specs.SessionLaws.{read-first, read-none, entry-length, end-length}
 
 -- ---- the conditions
@@ -204,8 +204,8 @@ past-frame s space false false false false false = refl
 
 log-length : (s : List ℕ) (ks : List Command) (j : ℕ) → 2177 ≤ length s → readFrom (countOf s) s (startOf s) ≡ all ks j → length (logOf s ks) ≡ logLength s
 log-length s ks j l e =
-    let c = end-length ks (powered (cardOf s) powerUp) ∙ length-take-le 2177 s l in
-    simp (length-append, records-clean (countOf s) s (startOf s) ks j e .entries (powered (cardOf s) powerUp), c)
+    let c = end-length ks (initial s) ∙ length-take-le 2177 s l in
+    simp (length-append, records-clean (countOf s) s (startOf s) ks j e .entries (initial s), c)
 
 past-records : (s space : List ℕ) → 2177 ≤ length s → (x : Read) → readFrom (countOf s) s (startOf s) ≡ x
     → ended s space x .refusal ≡ first (recordsConditions (countOf s) s (startOf s)) (first (lastConditions s space) 0)

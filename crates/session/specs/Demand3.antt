@@ -16,7 +16,7 @@ use Rattle.model.specs.Call.{Call}
 use Rattle.model.specs.Log.{Entry, entriesBytes, logTrailer, logBytes}
 use Rattle.model.specs.Reader.{recordsEnd}
 use Rattle.model.specs.Refusal.{bytesLeft, noSpace}
-use Rattle.model.specs.Session.{cardOf, startOf, countOf, frame, Read, stopped, all, readFrom, entriesOf, endOf, logOf, Ran, rejected, written, ended, framed, run}
+use Rattle.model.specs.Session.{cardOf, startOf, countOf, frame, Read, stopped, all, readFrom, entriesOf, endOf, logOf, Ran, rejected, written, ended, framed, run, initial}
 use Rattle.model.specs.Single.{replies, final}
 use Rattle.secrecy.specs.Agree.{AgreeOutside}
 use Rattle.secrecy.specs.Secret.{Sealed, register, inZone, inZoneOrPasswords, PresentsNeither, AcceptsNot, Throughout, Indistinguishable}
@@ -25,7 +25,6 @@ use Rattle.secrecy.specs.Authentication as authentication
 use Rattle.secrecy.specs.Demand3 as calls
 use Rattle.session.specs.SessionLaws.{Every, end-length, entries-long}
 use Rattle.session.specs.Accepted.{Accepts, framed-well, card-good, accepting}
-use Rattle.session.specs.ReadBack.{start}
 use Rattle.session.specs.AsCalls.{callsFrom, entriesFrom, Same, as-calls}
 use Rattle.session.specs.Alike.{frame-same, read-same, calls-same, start-same, count-same}
 
@@ -153,44 +152,44 @@ module _ (hidden : ℕ → Bool) (in-card : (i : ℕ) → 2176 ≤ i → hidden 
         calls-same hidden in-card s₁ s₂ agree (countOf s₁) (startOf s₁) (let l = framed-well s₁ (accepts .frames) .low in omega arith)
         ∙ (λ t. callsFrom (count-same hidden in-card s₁ s₂ agree long t) s₂ (start-same hidden in-card s₁ s₂ agree long t))
 
-    same₁ : Same xs₁ ks (start s₁)
-    same₁ = as-calls (countOf s₁) s₁ (startOf s₁) ks (recordsEnd (length s₁)) (accepts .reads) (start s₁) (card-good s₁ (framed-well s₁ (accepts .frames)))
+    same₁ : Same xs₁ ks (initial s₁)
+    same₁ = as-calls (countOf s₁) s₁ (startOf s₁) ks (recordsEnd (length s₁)) (accepts .reads) (initial s₁) (card-good s₁ (framed-well s₁ (accepts .frames)))
 
-    same₂ : Same xs₂ ks (start s₂)
+    same₂ : Same xs₂ ks (initial s₂)
     same₂ =
-        as-calls (countOf s₂) s₂ (startOf s₂) ks (recordsEnd (length s₁)) reads₂ (start s₂)
+        as-calls (countOf s₂) s₂ (startOf s₂) ks (recordsEnd (length s₁)) reads₂ (initial s₂)
         (card-good s₂ (framed-well s₂ (sym (frame-same hidden in-card s₁ s₂ agree) ∙ accepts .frames)))
 
     indistinguishable : Indistinguishable hidden xs₁ (cardOf s₁) (cardOf s₂)
     indistinguishable = claim xs₁ (same₁ .along Ok (every ks accepts))
 
-    entries-same : entriesOf ks (start s₁) ≡ entriesOf ks (start s₂)
+    entries-same : entriesOf ks (initial s₁) ≡ entriesOf ks (initial s₂)
     entries-same =
         sym (same₁ .entries) ∙ ap (entriesFrom ks) (indistinguishable .observed)
-        ∙ ap (λ (xs : List Call). entriesFrom ks (replies xs (start s₂))) xs-same ∙ same₂ .entries
+        ∙ ap (λ (xs : List Call). entriesFrom ks (replies xs (initial s₂))) xs-same ∙ same₂ .entries
 
-    card-long : length (endOf ks (start s₁) .card) ≡ 2177
-    card-long = end-length ks (start s₁) ∙ length-take-le 2177 s₁ (let l = long in omega arith)
+    card-long : length (endOf ks (initial s₁) .card) ≡ 2177
+    card-long = end-length ks (initial s₁) ∙ length-take-le 2177 s₁ (let l = long in omega arith)
 
-    cards-agree : AgreeOutside hidden (endOf ks (start s₁) .card) (endOf ks (start s₂) .card)
+    cards-agree : AgreeOutside hidden (endOf ks (initial s₁) .card) (endOf ks (initial s₂) .card)
     cards-agree =
         record {
-          long = card-long ∙ sym (end-length ks (start s₂) ∙ length-take-le 2177 s₂ (let l = long in let w = agree .long in omega arith));
+          long = card-long ∙ sym (end-length ks (initial s₂) ∙ length-take-le 2177 s₂ (let l = long in let w = agree .long in omega arith));
           same = λ i h. (λ t. at (sym (same₁ .ends) t .card) i) ∙ indistinguishable .outside i h
-              ∙ (λ t. at (final (xs-same t) (start s₂) .card) i) ∙ (λ t. at (same₂ .ends t .card) i);
+              ∙ (λ t. at (final (xs-same t) (initial s₂) .card) i) ∙ (λ t. at (same₂ .ends t .card) i);
         }
 
     logs-alike : RunAlike hidden (accepting (logOf s₁ ks) space) (accepting (logOf s₂ ks) space)
     logs-alike =
-        accepted-alike hidden (entriesOf ks (start s₁)) (entriesOf ks (start s₂)) (endOf ks (start s₁) .card) (endOf ks (start s₂) .card) space
+        accepted-alike hidden (entriesOf ks (initial s₁)) (entriesOf ks (initial s₂)) (endOf ks (initial s₁) .card) (endOf ks (initial s₂) .card) space
         entries-same card-long cards-agree
 
   -- ---- the runs
 
   logs-long : (ks : List Command) → length (logOf s₁ ks) ≡ length (logOf s₂ ks)
   logs-long ks =
-      let c = end-length ks (start s₁) ∙ cards-long ∙ sym (end-length ks (start s₂)) in
-      simp (length-append, entries-long ks (start s₁) (start s₂), c)
+      let c = end-length ks (initial s₁) ∙ cards-long ∙ sym (end-length ks (initial s₂)) in
+      simp (length-append, entries-long ks (initial s₁) (initial s₂), c)
     where
       cards-long : length (cardOf s₁) ≡ length (cardOf s₂)
       cards-long = length-take 2177 s₁ ∙ ap (min 2177) (agree .long) ∙ sym (length-take 2177 s₂)

@@ -17,12 +17,12 @@ use Rattle.model.specs.Reader.{recordsEnd, partAt, nextOf}
 use Rattle.model.specs.Record.{recordLength, decode}
 use Rattle.model.specs.RecordLaws.{Fields, accepted, decode-front}
 use Rattle.model.specs.Sane.{Good, check-good, good-after}
-use Rattle.model.specs.Session.{startOf, countOf, readFrom, all, after, logOf}
+use Rattle.model.specs.Session.{startOf, countOf, readFrom, all, after, logOf, initial}
 use Rattle.model.specs.Single.{check, apply, command}
 use Rattle.session.specs.SessionLaws.{Every, read-first}
 use Rattle.session.specs.Conditions.{placePast}
 use Rattle.session.specs.Accepted.{Accepts, framed-well, card-good}
-use Rattle.session.specs.ReadBack.{start, reached, commandAt, all-fields, log-answer}
+use Rattle.session.specs.ReadBack.{reached, commandAt, all-fields, log-answer}
 
 -- the bytes of the record at a place
 abbrev pub recordAt : List ℕ → ℕ → List ℕ
@@ -60,19 +60,19 @@ leaving m answer space = record { card = m .card; reply = replying space (report
 
 module _ (s log : List ℕ) (ks : List Command) (bytes : Bytes s) (a : Accepts s log ks) where
   pub single : (k : ℕ) → k < countOf s → (space : List ℕ) → length (answerIn (logOf s ks) (find (logOf s ks) k)) ≤ length space
-      → command (reached ks (start s) k .card) (reached ks (start s) k .state) (calling (recordAt s (placePast k s (startOf s))) space)
-      ≡ leaving (reached ks (start s) (suc k)) (answerIn (logOf s ks) (find (logOf s ks) k)) space
+      → command (reached ks (initial s) k .card) (reached ks (initial s) k .state) (calling (recordAt s (placePast k s (startOf s))) space)
+      ≡ leaving (reached ks (initial s) (suc k)) (answerIn (logOf s ks) (find (logOf s ks) k)) space
   single k h space room =
-      let m : Powered Volatile = reached ks (start s) k in
+      let m : Powered Volatile = reached ks (initial s) k in
       let r : List ℕ = recordAt s (placePast k s (startOf s)) in
       let q = log-answer s log ks bytes a k h in
       let fields = all-fields s log ks bytes a in
       let admitted : Admitted check decode apply (m .card) (m .state) (calling r space) (commandAt ks k) (recordLength (partAt s (placePast k s (startOf s)))) =
       record {
-        checks = check-good (m .card) (m .state) (reached-good ks (start s) k (fields .every) (card-good s (framed-well s (a .frames))));
+        checks = check-good (m .card) (m .state) (reached-good ks (initial s) k (fields .every) (card-good s (framed-well s (a .frames))));
         decodes = record-is s (placePast k s (startOf s)) (commandAt ks k) (next-is (countOf s) s (startOf s) ks (recordsEnd (length s)) (a .reads) k h);
         exactly = let l = length-take (recordLength (partAt s (placePast k s (startOf s)))) (partAt s (placePast k s (startOf s))) in omega arith;
         fits = rw q at room;
       } in
       carried-out check decode apply (m .card) (m .state) (calling r space) (commandAt ks k) _ admitted
-      ∙ rw (q, reached-after ks (start s) k (rw (fields .number) h))
+      ∙ rw (q, reached-after ks (initial s) k (rw (fields .number) h))

@@ -11,25 +11,22 @@ use lib.Dec.{ltb}
 use lib.ListN.{length, take, drop, getD, List·getD-eq-default, length-take}
 use lib.Seq.{getD-take, getD-drop}
 use Rattle.model.specs.Lists.{at, Bytes}
-use Rattle.model.specs.Volatile.{Volatile, powerUp}
+use Rattle.model.specs.Volatile.{Volatile}
 use Rattle.model.specs.Command.{Command, powerCycle}
-use Rattle.model.specs.Call.{Powered, powered}
+use Rattle.model.specs.Call.{Powered}
 use Rattle.model.specs.Log.{LaidOut, valid, find, missing, answerIn}
 use Rattle.model.specs.Log as log
 use Rattle.model.specs.Reader.{recordsEnd, partAt}
 use Rattle.model.specs.RecordLaws.{Fields, decode-fields}
 use Rattle.model.specs.Refusal.{noSuchAnswer}
 use Rattle.model.specs.Sane.{Good}
-use Rattle.model.specs.Session.{cardOf, startOf, countOf, logged, after, entriesOf, endOf, logOf}
+use Rattle.model.specs.Session.{startOf, countOf, logged, after, entriesOf, endOf, logOf, initial}
 use Rattle.model.specs.Single.{apply}
 use Rattle.log.specs.Written.{responseOf, written-valid, written-answer, written-none, written-card, count-is}
 use Rattle.session.specs.SessionLaws.{Logs, decode-logs, Readings, readings, end-good, entries-length, entries-fit}
 use Rattle.session.specs.Accepted.{Framed, framed-well, card-good, Accepts}
 
 -- ---- the card and the state that a list of commands has reached before command k, and that command
-
-abbrev pub start : List ℕ → Powered Volatile
-start s = powered (cardOf s) powerUp
 
 abbrev pub reached : List Command → Powered Volatile → ℕ → Powered Volatile
 reached ks m k = endOf (take k ks) m
@@ -66,14 +63,14 @@ module _ (s space : List ℕ) (ks : List Command) (bytes : Bytes s) (a : Accepts
   all-logs =
       readings Logs s (λ i k m e. decode-logs (partAt s i) (part-bytes s bytes i) k m e) (countOf s) (startOf s) ks (recordsEnd (length s)) (framed .high) (a .reads)
 
-  pub final-good : Good (endOf ks (start s) .card) (endOf ks (start s) .state)
-  final-good = end-good ks (start s) (all-fields .every) (card-good s framed)
+  pub final-good : Good (endOf ks (initial s) .card) (endOf ks (initial s) .state)
+  final-good = end-good ks (initial s) (all-fields .every) (card-good s framed)
 
-  pub laid-out : LaidOut (entriesOf ks (start s)) (endOf ks (start s) .card) (logOf s ks)
+  pub laid-out : LaidOut (entriesOf ks (initial s)) (endOf ks (initial s) .card) (logOf s ks)
   laid-out =
       record {
-        few = rw (entries-length ks (start s), all-fields .number) (framed .few);
-        fit = entries-fit ks (start s) (all-logs .every);
+        few = rw (entries-length ks (initial s), all-fields .number) (framed .few);
+        fit = entries-fit ks (initial s) (all-logs .every);
         long = final-good .long;
         stage = final-good .stage;
         same = refl;
@@ -81,23 +78,23 @@ module _ (s space : List ℕ) (ks : List Command) (bytes : Bytes s) (a : Accepts
 
   -- the log is accepted
   pub log-valid : valid (logOf s ks) ≡ true
-  log-valid = written-valid (entriesOf ks (start s)) (endOf ks (start s) .card) (logOf s ks) laid-out
+  log-valid = written-valid (entriesOf ks (initial s)) (endOf ks (initial s) .card) (logOf s ks) laid-out
 
   -- it has as many answers as the session has records
   pub log-count : log.countOf (logOf s ks) ≡ countOf s
-  log-count = count-is (entriesOf ks (start s)) (endOf ks (start s) .card) (logOf s ks) laid-out ∙ entries-length ks (start s) ∙ all-fields .number
+  log-count = count-is (entriesOf ks (initial s)) (endOf ks (initial s) .card) (logOf s ks) laid-out ∙ entries-length ks (initial s) ∙ all-fields .number
 
   -- answer k is the response of record k
-  pub log-answer : (k : ℕ) → k < countOf s → answerIn (logOf s ks) (find (logOf s ks) k) ≡ apply (reached ks (start s) k .card) (reached ks (start s) k .state) (commandAt ks k) .report .answer
+  pub log-answer : (k : ℕ) → k < countOf s → answerIn (logOf s ks) (find (logOf s ks) k) ≡ apply (reached ks (initial s) k .card) (reached ks (initial s) k .state) (commandAt ks k) .report .answer
   log-answer k h =
-      written-answer (entriesOf ks (start s)) (endOf ks (start s) .card) (logOf s ks) laid-out k (rw (entries-length ks (start s), all-fields .number) h)
-      ∙ response-is ks (start s) k (rw (all-fields .number) h)
+      written-answer (entriesOf ks (initial s)) (endOf ks (initial s) .card) (logOf s ks) laid-out k (rw (entries-length ks (initial s), all-fields .number) h)
+      ∙ response-is ks (initial s) k (rw (all-fields .number) h)
 
   -- and there is no other
   pub log-none : (k : ℕ) → countOf s ≤ k → find (logOf s ks) k ≡ missing noSuchAnswer
   log-none k h =
-      written-none (entriesOf ks (start s)) (endOf ks (start s) .card) (logOf s ks) laid-out k (rw (entries-length ks (start s), all-fields .number) h)
+      written-none (entriesOf ks (initial s)) (endOf ks (initial s) .card) (logOf s ks) laid-out k (rw (entries-length ks (initial s), all-fields .number) h)
 
   -- its card is the final card
-  pub log-card : take 2177 (drop (log.offsetOf (logOf s ks)) (logOf s ks)) ≡ endOf ks (start s) .card
-  log-card = written-card (entriesOf ks (start s)) (endOf ks (start s) .card) (logOf s ks) laid-out
+  pub log-card : take 2177 (drop (log.offsetOf (logOf s ks)) (logOf s ks)) ≡ endOf ks (initial s) .card
+  log-card = written-card (entriesOf ks (initial s)) (endOf ks (initial s) .card) (logOf s ks) laid-out

@@ -100,6 +100,12 @@ read-first n s i ks j e = go (nextOf s i) refl e
 pub read-none : (s : List ℕ) (i : ℕ) (ks : List Command) (j : ℕ) → readFrom 0 s i ≡ all ks j → (ks ≡ []) × (i ≡ j)
 read-none s i ks j e = (cc, cc)
 
+pub read-count : (n : ℕ) (s : List ℕ) (i : ℕ) (ks : List Command) (j : ℕ) → readFrom n s i ≡ all ks j → length ks ≡ n
+read-count zero s i ks j e = rw (read-none s i ks j e .0)
+read-count (suc n) s i ks j e =
+    let f = read-first n s i ks j e in
+    rw (f .list) (ap suc (read-count n s (i + f .length) (f .others) j (f .rest)))
+
 -- a property of every command of a list
 abbrev pub Every : (Command → Type 0) → List Command → Type 0
 Every P [] = Unit {0}

@@ -1,1 +1,46 @@
-// Sessions: checked whole, run, logged.
+// A session: checked whole, run on its card, and logged.
+ghost use mathlib.Core.Path.{_≡_};
+ghost use Rattle.model.specs.Session as model;
+ghost use Rattle.session.specs.Run.{ranOf};
+use crate::check::Checked;
+use crate::check::check;
+use crate::result::Run;
+use crate::write::write_log;
+use command::Outcome;
+use record::refusal::Refusal;
+
+pub mod check;
+pub mod result;
+pub mod write;
+
+// A session run. A refusal changes nothing; an accepted session's log stands at the front of the log space.
+pub fn run(session: &[u8], log: &mut [u8]) -> Run
+    ensures { λ r. ⌜ ranOf r (now (log .exit)) ≡ model.run (now (session .entry)) (now (log .entry)) ⌝ }
+{
+    match check(session) {
+        Checked::Refused(why) => Run {
+            outcome: Outcome::Refused(why),
+            length: 0,
+        },
+        Checked::Entries(entries) => {
+            let room = log.len();
+            if room < 2185 {
+                return Run {
+                    outcome: Outcome::Refused(Refusal::NoSpace),
+                    length: 0,
+                };
+            }
+            if room - 2185 < entries {
+                return Run {
+                    outcome: Outcome::Refused(Refusal::NoSpace),
+                    length: 0,
+                };
+            }
+            write_log(session, entries, log);
+            Run {
+                outcome: Outcome::Accepted,
+                length: entries + 2185,
+            }
+        }
+    }
+}

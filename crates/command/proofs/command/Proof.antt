@@ -1,8 +1,8 @@
 -- Refused, or carried out, by what was admitted.
 use mathlib.Core.Path.{sym, ap, _∙_}
 use borrow.Author.Needs.{needs}
-use Rattle.record.specs.Record.{commandOf, decodedOf}
-use Rattle.command.proofs.AdmitLaws.{answer-alone}
+use Rattle.command.specs.Alone.{answer-alone}
+use Rattle.record.specs.Record.{decodedOf}
 use Rattle.command.proofs.CommandLaws.{call-refused, ready, call-carried}
 use Rattle.command.proofs.command.Statement.{statement}
 use Rattle.command.proofs.command.Tie as tie
@@ -18,6 +18,9 @@ enum-known-kind c = search needs
 
 answer-length-requires : tie.Need-answer-length-requires
 answer-length-requires c κs = search needs
+
+cast-length : tie.Need-cast-length
+cast-length c = search needs
 
 carry-out-requires : tie.Need-carry-out-requires
 carry-out-requires c κs = ready _ _ _ _ _ _ (sym (ap (decodedOf (c .before .before .before .before .before .before .before .before .before .before .before .args .«record» .now)) (c .before .before .before .before .kind .given .1)) ∙ c .before .before .before .before .before .before .admit .ensures)
@@ -35,7 +38,8 @@ same-length-3 : tie.Need-same-length-3
 same-length-3 c = search needs
 
 returns-2 : tie.Need-returns-2
-returns-2 c = call-carried _ _ _ _ _ _ (sym (ap (decodedOf (c .before .before .before .before .before .before .before .before .before .before .before .before .before .before .before .before .args .«record» .now)) (c .before .before .before .before .before .before .before .before .before .kind .given .1)) ∙ c .before .before .before .before .before .before .before .before .before .before .before .admit .ensures) _ _ _ _ (c .before .before .before .before .before .before .before .answer-length .ensures ∙ sym (answer-alone (c .before .before .before .before .before .before .before .before .before .before .before .before .before .before .before .before .args .«record» .now) (c .before .before .before .before .before .before .before .before .before .kind .given .0 .1 .0) (c .before .before .before .before .before .before .before .before .before .kind .given .0 .0))) (c .before .before .before .before .carry-out .ensures)
+returns-2 c = call-carried _ _ _ _ _ _ (sym (ap (decodedOf (c .before .before .before .before .before .before .before .before .before .before .before .before .before .before .before .before .args .«record» .now)) (c .before .before .before .before .before .before .before .before .before .kind .given .1)) ∙ c .before .before .before .before .before .before .before .before .before .before .before .admit .ensures) _ _ _ _
+    (c .before .before .before .before .before .before .before .answer-length .ensures ∙ sym (answer-alone (c .before .before .before .before .before .before .before .before .before .before .before .before .before .before .before .before .args .«record» .now) (c .before .before .before .before .before .before .before .before .before .kind .given .0 .1 .0) (c .before .before .before .before .before .before .before .before .before .kind .given .0 .0))) (c .before .before .before .before .carry-out .ensures)
 
 pub command-spec : {M : Type 1} → statement M
 command-spec =
@@ -45,6 +49,7 @@ command-spec =
     enum-known-why
     enum-known-kind
     answer-length-requires
+    cast-length
     carry-out-requires
     same-length
     returns

@@ -29,26 +29,25 @@ enum-known-kind : tie.Need-enum-known-kind
 enum-known-kind c = search needs
 
 returns-2 : tie.Need-returns-2
-returns-2 c =
-    left-over _ _ _ _ (sym (ap outcomeNumber (c .before .before .before .before .before .enum-told .given .1)) ∙ c .before .before .before .before .before .before .before .check .ensures) (c .before .before .kind .given .0 .0) _
+returns-2 c = left-over _ _ _ _ (sym (ap outcomeNumber (c .before .before .before .before .before .enum-told .given .1)) ∙ c .before .before .before .before .before .before .before .check .ensures) (c .before .before .kind .given .0 .0) _
     (sym (ap (decodedOf (c .before .before .before .before .before .before .before .before .before .before .args .«record» .now)) (c .before .before .kind .given .1)) ∙ c .before .before .before .before .decode .ensures) (c .if1 .taken)
 
 answer-length-requires : tie.Need-answer-length-requires
 answer-length-requires c κs = search needs
 
+cast-if2 : tie.Need-cast-if2
+cast-if2 c = search needs
+
 returns-3 : tie.Need-returns-3
-returns-3 c =
-    no-room _ _ _ _ (sym (ap outcomeNumber (c .before .before .before .before .before .before .before .enum-told .given .1)) ∙ c .before .before .before .before .before .before .before .before .before .check .ensures) (c .before .before .before .before .kind .given .0 .0) _
+returns-3 c = no-room _ _ _ _ (sym (ap outcomeNumber (c .before .before .before .before .before .before .before .enum-told .given .1)) ∙ c .before .before .before .before .before .before .before .before .before .check .ensures) (c .before .before .before .before .kind .given .0 .0) _
     (sym (ap (decodedOf (c .before .before .before .before .before .before .before .before .before .before .before .before .args .«record» .now)) (c .before .before .before .before .kind .given .1)) ∙ c .before .before .before .before .before .before .decode .ensures) _ (c .before .before .if1 .left) (c .before .answer-length .ensures) (c .if2 .taken)
 
 returns-4 : tie.Need-returns-4
-returns-4 c =
-    record-refused _ _ _ _ (sym (ap outcomeNumber (c .before .before .before .before .enum-told .given .1)) ∙ c .before .before .before .before .before .before .check .ensures) _
+returns-4 c = record-refused _ _ _ _ (sym (ap outcomeNumber (c .before .before .before .before .enum-told .given .1)) ∙ c .before .before .before .before .before .before .check .ensures) _
     (sym (ap (decodedOf (c .before .before .before .before .before .before .before .before .before .args .«record» .now)) (c .before .why2 .given .1)) ∙ c .before .before .before .decode .ensures)
 
 returns-5 : tie.Need-returns-5
-returns-5 c =
-    is-admitted _ _ _ _ (sym (ap outcomeNumber (c .before .before .before .before .before .before .before .enum-told .given .1)) ∙ c .before .before .before .before .before .before .before .before .before .check .ensures) (c .before .before .before .before .kind .given .0 .0) _
+returns-5 c = is-admitted _ _ _ _ (sym (ap outcomeNumber (c .before .before .before .before .before .before .before .enum-told .given .1)) ∙ c .before .before .before .before .before .before .before .before .before .check .ensures) (c .before .before .before .before .kind .given .0 .0) _
     (sym (ap (decodedOf (c .before .before .before .before .before .before .before .before .before .before .before .before .args .«record» .now)) (c .before .before .before .before .kind .given .1)) ∙ c .before .before .before .before .before .before .decode .ensures) _ (c .before .before .if1 .left) (c .before .answer-length .ensures) (c .if2 .left)
 
 pub admit-spec : {M : Type 1} → statement M
@@ -64,6 +63,7 @@ admit-spec =
     enum-known-kind
     returns-2
     answer-length-requires
+    cast-if2
     returns-3
     returns-4
     returns-5)

@@ -1,0 +1,3 @@
+mod CheckLaws
+mod WriteLaws
+mod RunLaws

@@ -1,0 +1,68 @@
+-- The working card, the entries, the final card and the trailer, each in its place.
+use mathlib.Core.Path.{refl}
+use native.Mathlib.Omega.{arith}
+use borrow.Author.Needs.{needs}
+use Rattle.session.proofs.WriteLaws.{session-long, records-ready, log-written}
+use Rattle.session.proofs.write.write_log.Statement.{statement}
+use Rattle.session.proofs.write.write_log.Tie as tie
+
+sub-get4 : tie.Need-sub-get4
+sub-get4 c = let l = session-long _ _ _ (c .before .before .pre) in omega arith
+
+get4-requires : tie.Need-get4-requires
+get4-requires c κs = let l = session-long _ _ _ (c .before .before .pre) in omega arith
+
+sub-get2 : tie.Need-sub-get2
+sub-get2 c = let l = session-long _ _ _ (c .before .before .before .pre) in omega arith
+
+get2-requires : tie.Need-get2-requires
+get2-requires c κs = let l = session-long _ _ _ (c .before .before .before .pre) in omega arith
+
+slice-aggregate-copy : tie.Need-slice-aggregate-copy
+slice-aggregate-copy c = search needs
+
+copy-requires : tie.Need-copy-requires
+copy-requires c κs = let l = session-long _ _ _ (c .before .before .before .before .before .pre) in (omega arith, omega arith)
+
+slice-aggregate-run-records : tie.Need-slice-aggregate-run-records
+slice-aggregate-run-records c = search needs
+
+run-records-requires : tie.Need-run-records-requires
+run-records-requires c κs = records-ready _ _ _ (c .before .before .before .before .before .before .before .before .before .pre) _ _ _ _ refl (c .before .before .before .copy .ensures) (c .before .before .before .before .before .before .get4 .ensures .0) (c .before .before .before .before .before .get2 .ensures .0)
+
+slice-aggregate-copy-2 : tie.Need-slice-aggregate-copy-2
+slice-aggregate-copy-2 c = search needs
+
+copy-requires-2 : tie.Need-copy-requires-2
+copy-requires-2 c κs = search needs
+
+add-put-trailer : tie.Need-add-put-trailer
+add-put-trailer c = search needs
+
+put-trailer-requires : tie.Need-put-trailer-requires
+put-trailer-requires c κs = search needs
+
+same-length : tie.Need-same-length
+same-length c = search needs
+
+returns : tie.Need-returns
+returns c = log-written _ _ _ (c .before .before .before .before .before .before .before .before .before .before .before .before .before .before .before .before .before .before .before .before .before .before .pre) _ _ _ _ refl (c .before .before .before .before .before .before .before .before .before .before .before .before .before .before .before .before .copy .ensures) (c .before .before .before .before .before .before .before .before .before .before .before .before .before .before .before .before .before .before .before .get4 .ensures .0) (c .before .before .before .before .before .before .before .before .before .before .before .before .before .before .before .before .before .before .get2 .ensures .0) _ _ _ _ (c .before .before .before .before .before .before .before .before .before .before .before .before .run-records .ensures) (c .before .before .before .before .before .before .copy2 .ensures) (c .before .before .put-trailer .ensures)
+
+pub write-log-spec : {M : Type 1} → statement M
+write-log-spec =
+    tie.close
+    (tie.spec
+    sub-get4
+    get4-requires
+    sub-get2
+    get2-requires
+    slice-aggregate-copy
+    copy-requires
+    slice-aggregate-run-records
+    run-records-requires
+    slice-aggregate-copy-2
+    copy-requires-2
+    add-put-trailer
+    put-trailer-requires
+    same-length
+    returns)

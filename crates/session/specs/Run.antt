@@ -1,0 +1,71 @@
+-- What the run of a session asks of its parts, and what they leave.
+use Prim.Native.Nat.{ℕ, _+_, _≤_}
+use mathlib.Core.List.{List}
+use mathlib.Core.Path.{_≡_}
+use lib.ListN.{length}
+use lib.Seq.{sets}
+use Rattle.model.specs.At88sc1608.{at88sc1608}
+use Rattle.model.specs.Call.{Powered, powered}
+use Rattle.model.specs.Command.{Command}
+use Rattle.model.specs.Effects.{answerLength}
+use Rattle.model.specs.Log.{entryBytes, entriesBytes}
+use Rattle.model.specs.Reader.{recordsEnd}
+use Rattle.model.specs.RecordLaws.{Fields}
+use Rattle.model.specs.Sane.{Good}
+use Rattle.model.specs.Session as model
+use Rattle.model.specs.Volatile.{Volatile, powerUp}
+use Rattle.command.specs.Reply.{outcomeNumber}
+use Rattle.session.specs.Check.{entriesTotal}
+use Rattle.session.specs.declared.result.Run.{Run}
+
+-- the result with the log space at exit
+abbrev pub ranOf : Run → List ℕ → model.Ran
+ranOf r space = record { refusal = outcomeNumber (r .outcome); length = r .length; space = space }
+
+-- ---- one record
+
+-- a card and a state in range, a record with its fields in range, room for its entry
+pub record EntryReady (part : List ℕ) (m : Powered Volatile) (k : Command) (n : ℕ) (log : List ℕ) (place : ℕ) : Type 0 where
+  pub good : Good (m .card) (m .state)
+  pub fields : Fields k
+  pub within : n ≤ length part
+  pub room : place + (3 + answerLength at88sc1608 k) ≤ length log
+
+-- the command is carried out, and its entry stands in its place
+pub record EntryWritten (m : Powered Volatile) (k : Command) (log : List ℕ) (place : ℕ) (c′ : List ℕ) (s′ : Volatile) (log′ : List ℕ) : Type 0 where
+  pub card : c′ ≡ model.after m k .card
+  pub state : s′ ≡ model.after m k .state
+  pub bytes : log′ ≡ sets log place (entryBytes (model.logged m k))
+
+-- ---- all records
+
+-- records that are whole, a card for them and room for their entries
+pub record RecordsReady (s : List ℕ) (start count : ℕ) (c log : List ℕ) : Type 0 where
+  pub commands : List Command
+  pub reads : model.readFrom count s start ≡ model.all commands (recordsEnd (length s))
+  pub within : start ≤ recordsEnd (length s)
+  pub good : Good c powerUp
+  pub room : entriesTotal commands ≤ length log
+
+-- all commands are carried out, and their entries stand at the front of the log
+pub record RecordsRun (s : List ℕ) (start count : ℕ) (c log c′ log′ : List ℕ) : Type 0 where
+  pub commands : List Command
+  pub reads : model.readFrom count s start ≡ model.all commands (recordsEnd (length s))
+  pub card : c′ ≡ model.endOf commands (powered c powerUp) .card
+  pub bytes : log′ ≡ sets log 0 (entriesBytes (model.entriesOf commands (powered c powerUp)))
+
+-- ---- the log
+
+-- a session whose check gave the length of the entries, and room for its log
+pub record LogReady (s : List ℕ) (entries : ℕ) (log : List ℕ) : Type 0 where
+  pub commands : List Command
+  pub frames : model.frame s ≡ 0
+  pub reads : model.readFrom (model.countOf s) s (model.startOf s) ≡ model.all commands (recordsEnd (length s))
+  pub total : entries ≡ entriesTotal commands
+  pub room : entries + 2185 ≤ length log
+
+-- the log stands at the front of the space
+pub record LogWritten (s log log′ : List ℕ) : Type 0 where
+  pub commands : List Command
+  pub reads : model.readFrom (model.countOf s) s (model.startOf s) ≡ model.all commands (recordsEnd (length s))
+  pub bytes : log′ ≡ sets log 0 (model.logOf s commands)

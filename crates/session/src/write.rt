@@ -1,0 +1,111 @@
+// A session that was checked is run on a working card, and its log written.
+ghost use mathlib.Core.Path.{_≡_};
+ghost use mathlib.Core.List.{[]};
+ghost use Prim.Native.Nat.{_+_, _≤_};
+ghost use lib.ListN.{length, take};
+ghost use lib.Seq.{sets};
+ghost use Rattle.model.specs.Call.{powered};
+ghost use Rattle.model.specs.Session.{kindOf};
+ghost use Rattle.access.specs.State.{volatileOf};
+ghost use Rattle.record.specs.Record.{commandOf};
+ghost use Rattle.session.specs.Run.{EntryReady, EntryWritten, RecordsReady, RecordsRun, LogReady, LogWritten};
+use access::volatile::Volatile;
+use access::volatile::power_up;
+use command::admit::answer_length;
+use command::carry::carry_out;
+use log::write::put_header;
+use log::write::put_trailer;
+use record::decoder::Decoded;
+use record::decoder::Record;
+use record::number::get2;
+use record::number::get4;
+use record::reader::next_at;
+use record::reader::records_end;
+
+// The number of a record's kind.
+fn kind_number(record: Record) -> u8
+    ensures { λ r. ⌜ r ≡ kindOf (commandOf [] 0 «record») ⌝ }
+{
+    match record {
+        Record::PowerCycle => 1,
+        Record::Reset => 2,
+        Record::Select(_) => 3,
+        Record::ReadZone(_, _) => 4,
+        Record::WriteZone(_) => 5,
+        Record::ReadConfiguration(_, _) => 6,
+        Record::WriteConfiguration(_) => 7,
+        Record::ReadFuses => 8,
+        Record::WriteFuses => 9,
+        Record::VerifyPassword(_) => 10,
+        Record::BeginAuthentication => 11,
+        Record::VerifyAuthentication(_) => 12,
+    }
+}
+
+// helper: the first bytes of one slice put into another from a place on.
+fn copy(to: &mut [u8], at: usize, from: &[u8], count: usize)
+    requires { ⌜ (at + count ≤ length (now to)) × (count ≤ length (now from)) ⌝ }
+    ensures { λ _. ⌜ now (to .exit) ≡ sets (now (to .entry)) at (take count (now (from .entry))) ⌝ }
+{
+    let mut i = 0;
+    while i < count {
+        to[at + i] = from[i];
+        i += 1;
+    }
+}
+
+// helper: a record carried out, and its entry written.
+fn write_entry(
+    part: &[u8],
+    kind: Record,
+    length: usize,
+    card: &mut [u8],
+    state: Volatile,
+    log: &mut [u8],
+    place: usize,
+) -> Volatile
+    requires { ⌜ EntryReady (now part) (powered (now card) (volatileOf state)) (commandOf (now part) length kind) length (now log) place ⌝ }
+    ensures { λ r. ⌜ EntryWritten (powered (now (card .entry)) (volatileOf state)) (commandOf (now (part .entry)) length kind) (now (log .entry)) place (now (card .exit)) (volatileOf r) (now (log .exit)) ⌝ }
+{
+    put_header(log, place, kind_number(kind), answer_length(kind) as usize);
+    let from = place + 3;
+    carry_out(card, state, kind, part, length, &mut log[from..])
+}
+
+// helper: count records from start on, run from power-up.
+fn run_records(session: &[u8], start: usize, count: usize, card: &mut [u8], log: &mut [u8])
+    requires { ⌜ RecordsReady (now session) start count (now card) (now log) ⌝ }
+    ensures { λ _. ⌜ RecordsRun (now (session .entry)) start count (now (card .entry)) (now (log .entry)) (now (card .exit)) (now (log .exit)) ⌝ }
+{
+    let end = records_end(session);
+    let mut state = power_up();
+    let mut at = start;
+    let mut place = 0;
+    let mut left = count;
+    while 0 < left {
+        match next_at(session, at) {
+            Decoded::Refused(_) => return,
+            Decoded::Whole(kind, length) => {
+                state = write_entry(&session[at..end], kind, length, card, state, log, place);
+                at += length;
+                place += 3 + answer_length(kind) as usize;
+                left -= 1;
+            }
+        }
+    }
+}
+
+// helper: the entries, the final card and the trailer.
+pub fn write_log(session: &[u8], entries: usize, log: &mut [u8])
+    requires { ⌜ LogReady (now session) entries (now log) ⌝ }
+    ensures { λ _. ⌜ LogWritten (now (session .entry)) (now (log .entry)) (now (log .exit)) ⌝ }
+{
+    let length = session.len();
+    let start = get4(session, length - 8);
+    let count = get2(session, length - 4);
+    let mut card = [0u8; 2177];
+    copy(&mut card, 0, session, 2177);
+    run_records(session, start, count, &mut card, log);
+    copy(log, entries, &card, 2177);
+    put_trailer(log, entries + 2177, entries, count);
+}
