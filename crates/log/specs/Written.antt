@@ -76,14 +76,14 @@ responseOf [] k = []
 responseOf (e ∷ es) zero = e .response
 responseOf (e ∷ es) (suc k) = responseOf es k
 
-fits-two : (e : Entry) → lengthFits (e .kind) (length (e .response)) ≡ true → length (e .response) < 65536
+pub fits-two : (e : Entry) → lengthFits (e .kind) (length (e .response)) ≡ true → length (e .response) < 65536
 fits-two e f = let c = fits-small (e .kind) (length (e .response)) f in omega arith
 
 -- the first entry, and the others behind it
-first-entry : (p : List ℕ) (e : Entry) (es : List Entry) (q : List ℕ) → p ++ (entriesBytes (e ∷ es) ++ q) ≡ whole p e (entriesBytes es ++ q)
+pub first-entry : (p : List ℕ) (e : Entry) (es : List Entry) (q : List ℕ) → p ++ (entriesBytes (e ∷ es) ++ q) ≡ whole p e (entriesBytes es ++ q)
 first-entry p e es q = ap (λ (l : List ℕ). p ++ l) (append-assoc (entryBytes e) (entriesBytes es) q)
 
-other-entries : (p : List ℕ) (e : Entry) (es : List Entry) (q : List ℕ) → (p ++ entryBytes e) ++ (entriesBytes es ++ q) ≡ whole p e (entriesBytes es ++ q)
+pub other-entries : (p : List ℕ) (e : Entry) (es : List Entry) (q : List ℕ) → (p ++ entryBytes e) ++ (entriesBytes es ++ q) ≡ whole p e (entriesBytes es ++ q)
 other-entries p e es q = append-assoc p (entryBytes e) (entriesBytes es ++ q)
 
 pub entries-well : (es : List Entry) (p q : List ℕ) (end : ℕ) → AllFit es → length p + length (entriesBytes es) ≡ end

@@ -1,0 +1,65 @@
+-- The exported calls, from what the functions that they call give back.
+use Prim.Native.Nat.{ℕ, suc, _≤_, _^_}
+use mathlib.Core.Bool.{Bool, true, false, cond, not}
+use mathlib.Core.List.{List}
+use mathlib.Core.Path.{_≡_, refl, sym, ap, _∙_}
+use native.Mathlib.Omega.{arith}
+use lib.Dec.{eqb}
+use lib.ListN.{length}
+use Rattle.model.specs.Lists.{at, Bytes}
+use Rattle.model.specs.Call.{Called, calling}
+use Rattle.model.specs.Call as calls
+use Rattle.model.specs.Refusal.{cardLength, fuseByte, stateOutOfRange}
+use Rattle.model.specs.Session.{Ran, run}
+use Rattle.model.specs.Single.{isFuseByte, checkOf, check, command}
+use Rattle.model.specs.Volatile.{Volatile}
+use Rattle.exports.specs.Exports.{result, runCall, toldRun, exportedRun, commandCall, toldCommand, exportedCommand}
+use Rattle.exports.specs.Lengths.{response-small, run-small}
+use Rattle.exports.specs.State.{isState, stateOf, stateAfter}
+use Rattle.exports.specs.StateLaws.{state-long, state-range}
+
+-- ---- a session
+
+module _ (s space : List ℕ) (x : Ran) (ran : x ≡ run s space) where
+  pub log-fits : Bytes s → x .length ≤ 2 ^ 32
+  log-fits b = let e = ap (λ (y : Ran). y .length) ran in let h = run-small s space b in omega arith
+
+  pub run-told : (r : ℕ) → r ≡ result (x .refusal) (x .length) → runCall r (x .space) ≡ exportedRun s space
+  run-told r e = ap (λ (n : ℕ). runCall n (x .space)) e ∙ ap toldRun ran
+
+-- ---- a command
+
+-- bytes that stand for no state are refused
+not-accepted : (c b : List ℕ) → isState b ≡ false → (n : ℕ) × (check c (stateOf b) ≡ suc n)
+unfolding checkOf
+not-accepted c b e = rw (state-range b, e) (go (eqb (length c) 2177) (isFuseByte (at c 2176)))
+  where
+    go : (l f : Bool) → (n : ℕ) × (cond (not l) cardLength (cond (not f) fuseByte stateOutOfRange) ≡ suc n)
+    go true true = (11, refl)
+    go true false = (4, refl)
+    go false f = (10, refl)
+
+module _ (c b sent space : List ℕ) (v : Volatile) (read : v ≡ stateOf b) (x : Called Volatile) (called : x ≡ command c v (calling sent space)) where
+  same : x ≡ command c (stateOf b) (calling sent space)
+  same = called ∙ ap (λ (s : Volatile). command c s (calling sent space)) read
+
+  pub accepted-long : x .reply .refusal ≡ 0 → length b ≡ 4
+  unfolding calls.admission calls.command
+  accepted-long e = state-long b (go (isState b) refl)
+    where
+      go : (t : Bool) → isState b ≡ t → t ≡ true
+      go true q = refl
+      go false q =
+          let w = not-accepted c b q in
+          let z : suc (w .0) ≡ 0 = sym (ap (λ (y : Called Volatile). y .reply .refusal) same ∙ rw (w .1)) ∙ e in
+          absurd (let f : ⊥ = omega arith in f)
+
+  pub response-fits : Bytes sent → x .reply .length ≤ 2 ^ 32
+  response-fits h =
+      let e = ap (λ (y : Called Volatile). y .reply .length) called in
+      let s = response-small c v (calling sent space) h in
+      omega arith
+
+  pub command-told : (r : ℕ) (b′ : List ℕ) → r ≡ result (x .reply .refusal) (x .reply .length) → b′ ≡ stateAfter (x .reply .refusal) (x .reply .state) b
+      → commandCall r (x .card) b′ (x .reply .space) ≡ exportedCommand c b sent space
+  command-told r b′ e w = (λ i. commandCall (e i) (x .card) (w i) (x .reply .space)) ∙ ap (toldCommand b) same

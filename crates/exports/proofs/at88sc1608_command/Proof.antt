@@ -1,0 +1,43 @@
+-- From the state that was read, the command and the state that was written.
+use native.Mathlib.Omega.{arith}
+use borrow.Author.Needs.{needs}
+use Rattle.exports.proofs.ExportLaws.{accepted-long, response-fits, command-told}
+use Rattle.exports.proofs.at88sc1608_command.Statement.{statement}
+use Rattle.exports.proofs.at88sc1608_command.Tie as tie
+
+read-state-requires : tie.Need-read-state-requires
+read-state-requires c κs = search needs
+
+command-requires : tie.Need-command-requires
+command-requires c κs = search needs
+
+write-state-requires : tie.Need-write-state-requires
+write-state-requires c κs = accepted-long _ _ _ _ _ (c .before .before .before .before .before .before .before .before .before .read-state .ensures) _ (c .before .before .before .before .before .before .command .ensures)
+
+result-number-requires : tie.Need-result-number-requires
+result-number-requires c κs = response-fits _ _ _ _ _ (c .before .before .before .before .before .before .before .before .before .before .before .before .read-state .ensures) _ (c .before .before .before .before .before .before .before .before .before .command .ensures) (λ i. omega (arith, c .before .before .before .before .before .before .before .before .before .before .before .before .before .before .before .shared-slice-known .given i))
+
+same-length : tie.Need-same-length
+same-length c = search needs
+
+same-length-2 : tie.Need-same-length-2
+same-length-2 c = search needs
+
+same-length-3 : tie.Need-same-length-3
+same-length-3 c = search needs
+
+returns : tie.Need-returns
+returns c = command-told _ _ _ _ _ (c .before .before .before .before .before .before .before .before .before .before .before .before .before .read-state .ensures) _ (c .before .before .before .before .before .before .before .before .before .before .command .ensures) _ _ (c .result-number .ensures) (c .before .before .before .write-state .ensures)
+
+pub at88sc1608-command-spec : {M : Type 1} → statement M
+at88sc1608-command-spec =
+    tie.close
+    (tie.spec
+    read-state-requires
+    command-requires
+    write-state-requires
+    result-number-requires
+    same-length
+    same-length-2
+    same-length-3
+    returns)

@@ -1,0 +1,46 @@
+-- Each return by the tests that led to it.
+use borrow.Author.Needs.{needs}
+use Rattle.exports.proofs.ByteLaws.{bad-length, bad-zone, bad-authentication, by-active}
+use Rattle.exports.proofs.state.is_state.Statement.{statement}
+use Rattle.exports.proofs.state.is_state.Tie as tie
+
+returns : tie.Need-returns
+returns c = search bad-length
+
+shared-slice-read-if2 : tie.Need-shared-slice-read-if2
+shared-slice-read-if2 c = search needs
+
+returns-2 : tie.Need-returns-2
+returns-2 c = search bad-zone
+
+shared-slice-read-if3 : tie.Need-shared-slice-read-if3
+shared-slice-read-if3 c = search needs
+
+returns-3 : tie.Need-returns-3
+returns-3 c = search bad-authentication
+
+shared-slice-read-active-in-range : tie.Need-shared-slice-read-active-in-range
+shared-slice-read-active-in-range c = search needs
+
+shared-slice-read-active-in-range-2 : tie.Need-shared-slice-read-active-in-range-2
+shared-slice-read-active-in-range-2 c = search needs
+
+active-in-range-requires : tie.Need-active-in-range-requires
+active-in-range-requires c κs = search needs
+
+returns-4 : tie.Need-returns-4
+returns-4 c = search by-active
+
+pub is-state-spec : {M : Type 1} → statement M
+is-state-spec =
+    tie.close
+    (tie.spec
+    returns
+    shared-slice-read-if2
+    returns-2
+    shared-slice-read-if3
+    returns-3
+    shared-slice-read-active-in-range
+    shared-slice-read-active-in-range-2
+    active-in-range-requires
+    returns-4)

@@ -1,0 +1,47 @@
+-- Refused, or read byte by byte.
+use native.Mathlib.Omega.{arith}
+use borrow.Author.Needs.{needs}
+use Rattle.exports.proofs.ByteLaws.{unread, four, is-read}
+use Rattle.exports.proofs.state.read_state.Statement.{statement}
+use Rattle.exports.proofs.state.read_state.Tie as tie
+
+is-state-requires : tie.Need-is-state-requires
+is-state-requires c κs = search needs
+
+returns : tie.Need-returns
+returns c = unread _ _ (c .before .is-state .ensures) (c .if1 .taken)
+
+shared-slice-read-active-read : tie.Need-shared-slice-read-active-read
+shared-slice-read-active-read c = let l = four _ _ (c .before .before .is-state .ensures) (c .before .if1 .left) in omega arith
+
+shared-slice-read-active-read-2 : tie.Need-shared-slice-read-active-read-2
+shared-slice-read-active-read-2 c = let l = four _ _ (c .before .before .before .is-state .ensures) (c .before .before .if1 .left) in omega arith
+
+active-read-requires : tie.Need-active-read-requires
+active-read-requires c κs = search needs
+
+shared-slice-read-authentication-read : tie.Need-shared-slice-read-authentication-read
+shared-slice-read-authentication-read c = let l = four _ _ (c .before .before .before .before .before .is-state .ensures) (c .before .before .before .before .if1 .left) in omega arith
+
+authentication-read-requires : tie.Need-authentication-read-requires
+authentication-read-requires c κs = search needs
+
+shared-slice-read-t12 : tie.Need-shared-slice-read-t12
+shared-slice-read-t12 c = let l = four _ _ (c .before .before .before .before .before .before .before .is-state .ensures) (c .before .before .before .before .before .before .if1 .left) in omega arith
+
+returns-2 : tie.Need-returns-2
+returns-2 c = is-read _ _ (c .before .before .before .before .before .before .before .is-state .ensures) (c .before .before .before .before .before .before .if1 .left) _ _ (c .before .before .before .active-read .ensures) (c .before .authentication-read .ensures)
+
+pub read-state-spec : {M : Type 1} → statement M
+read-state-spec =
+    tie.close
+    (tie.spec
+    is-state-requires
+    returns
+    shared-slice-read-active-read
+    shared-slice-read-active-read-2
+    active-read-requires
+    shared-slice-read-authentication-read
+    authentication-read-requires
+    shared-slice-read-t12
+    returns-2)

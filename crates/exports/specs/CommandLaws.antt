@@ -1,0 +1,48 @@
+-- Laws of at88sc1608_command: bytes that stand for no state are refused with 12, and the bytes at exit stand for the state after
+-- the call, so calls one after the other are those of the model.
+use Prim.Native.Nat.{ℕ, zero, suc}
+use mathlib.Core.Bool.{true, false}
+use mathlib.Core.List.{List}
+use mathlib.Core.Path.{_≡_, refl}
+use borrow.Author.Tests.{eq-eqb}
+use lib.ListN.{length}
+use Rattle.model.specs.Lists.{at}
+use Rattle.model.specs.Call.{Call, Decoded, refused, whole, calling, refusing}
+use Rattle.model.specs.Call as calls
+use Rattle.model.specs.CallLaws.{admitted}
+use Rattle.model.specs.Command.{Command}
+use Rattle.model.specs.Record.{decode}
+use Rattle.model.specs.RecordLaws.{decode-fields}
+use Rattle.model.specs.Refusal.{stateOutOfRange}
+use Rattle.model.specs.Sane.{good-check, good-after}
+use Rattle.model.specs.Single.{isFuseByte, checkOf, check, apply, command}
+use Rattle.exports.specs.Exports.{exportedCommand}
+use Rattle.exports.specs.State.{isState, stateOf, stateAfter}
+use Rattle.exports.specs.StateLaws.{state-read, state-range}
+
+-- 12 at its place: where neither 11 nor 5 applies, and whatever the record and the response space are
+pub unread-refused : (c b : List ℕ) (x : Call) → length c ≡ 2177 → isFuseByte (at c 2176) ≡ true → isState b ≡ false
+    → command c (stateOf b) x ≡ record { card = c; reply = refusing stateOutOfRange (stateOf b) (x .space) }
+unfolding checkOf calls.admission calls.command
+unread-refused c b x l f e = rw (eq-eqb (length c) 2177 l, f, state-range b, e)
+
+-- the bytes at exit stand for the state after the call
+pub state-told : (c b sent space : List ℕ) → stateOf (exportedCommand c b sent space .state) ≡ command c (stateOf b) (calling sent space) .reply .state
+unfolding calls.admission calls.command
+state-told c b sent space = on-check (check c (stateOf b)) refl
+  where
+    fitted : Decoded Command
+    fitted = calls.fitting check decode apply c (stateOf b) (length space) (calls.exact sent (decode sent))
+
+    on-fitted : (d : Decoded Command) → check c (stateOf b) ≡ 0 → fitted ≡ d
+        → (let r = calls.carried check decode apply c (stateOf b) space d .reply in stateOf (stateAfter (r .refusal) (r .state) b) ≡ r .state)
+    on-fitted (refused zero) e q = state-read (stateOf b) (good-check c (stateOf b) e .range)
+    on-fitted (refused (suc n)) e q = refl
+    on-fitted (whole k n) e q =
+        let a = admitted check decode apply c (stateOf b) (calling sent space) k n (rw e q) in
+        state-read _ (good-after c (stateOf b) k (decode-fields sent k n (a .decodes)) (good-check c (stateOf b) e) .range)
+
+    on-check : (n : ℕ) → check c (stateOf b) ≡ n
+        → (let r = calls.carried check decode apply c (stateOf b) space (calls.checked n fitted) .reply in stateOf (stateAfter (r .refusal) (r .state) b) ≡ r .state)
+    on-check zero e = on-fitted fitted e refl
+    on-check (suc n) e = refl

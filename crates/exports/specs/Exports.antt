@@ -1,0 +1,59 @@
+-- What the exported functions give back and leave, in the model's terms.
+use Prim.Native.Nat.{ℕ, _+_, _*_, _^_}
+use mathlib.Core.List.{List}
+use Rattle.model.specs.Call.{Called, calling}
+use Rattle.model.specs.Log.{Found, missing, lies}
+use Rattle.model.specs.Session.{Ran, run}
+use Rattle.model.specs.Single.{command}
+use Rattle.model.specs.Volatile.{Volatile}
+use Rattle.exports.specs.State.{stateOf, stateAfter}
+
+-- the refusal's number, or 0, and 2^8 times a length
+abbrev pub result : ℕ → ℕ → ℕ
+result refusal n = refusal + 2 ^ 8 * n
+
+-- ---- at88sc1608_run
+
+-- the result and the log space at exit
+pub record RunCall : Type 0 where
+  pub result : ℕ
+  pub log : List ℕ
+
+abbrev pub runCall : ℕ → List ℕ → RunCall
+runCall r log = record { result = r; log = log }
+
+-- what the model's run tells of them
+abbrev pub toldRun : Ran → RunCall
+toldRun x = runCall (result (x .refusal) (x .length)) (x .space)
+
+-- of a session and a log space
+abbrev pub exportedRun : List ℕ → List ℕ → RunCall
+exportedRun session log = toldRun (run session log)
+
+-- ---- at88sc1608_command
+
+-- the result, and the card, the state's bytes and the response space at exit
+pub record CommandCall : Type 0 where
+  pub result : ℕ
+  pub card : List ℕ
+  pub state : List ℕ
+  pub response : List ℕ
+
+abbrev pub commandCall : ℕ → List ℕ → List ℕ → List ℕ → CommandCall
+commandCall r card state response = record { result = r; card = card; state = state; response = response }
+
+-- what the model's call tells of them, for the state's bytes at entry
+abbrev pub toldCommand : List ℕ → Called Volatile → CommandCall
+toldCommand state x =
+    commandCall (result (x .reply .refusal) (x .reply .length)) (x .card) (stateAfter (x .reply .refusal) (x .reply .state) state) (x .reply .space)
+
+-- of a card, a state's bytes, a record and a response space
+abbrev pub exportedCommand : List ℕ → List ℕ → List ℕ → List ℕ → CommandCall
+exportedCommand card state sent response = toldCommand state (command card (stateOf state) (calling sent response))
+
+-- ---- at88sc1608_answer
+
+-- the refusal's number, or 2^8 times the answer's length and 2^40 times where it begins in the log
+abbrev pub exportedAnswer : Found → ℕ
+exportedAnswer (missing n) = n
+exportedAnswer (lies from n) = 2 ^ 8 * n + 2 ^ 40 * from

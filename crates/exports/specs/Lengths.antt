@@ -1,0 +1,102 @@
+-- How large the numbers in a result can be: a response has at most 256 bytes, a log at most 4096 entries of 259 bytes, a card
+-- and its trailer.
+use Prim.Native.Nat.{ℕ, zero, suc, _+_, _*_, _≤_, _<_}
+use mathlib.Core.Bool.{Bool, true, false, cond, not}
+use mathlib.Core.List.{List, _++_}
+use mathlib.Core.Path.{_≡_, refl, ap, _∙_}
+use native.Mathlib.Nat.{le-of-suc-le-suc}
+use native.Mathlib.Omega.{arith}
+use borrow.Author.Tests.{eqb-true, ltb-false}
+use lib.Dec.{ltb, eqb}
+use lib.ListN.{length, drop}
+use Rattle.model.specs.Lists.{Bytes, and-left, and-right}
+use Rattle.model.specs.At88sc1608.{at88sc1608}
+use Rattle.model.specs.Call.{Decoded, refused, whole, Call}
+use Rattle.model.specs.Call as calls
+use Rattle.model.specs.CallLaws.{admitted}
+use Rattle.model.specs.Command.{Command}
+use Rattle.model.specs.Effects.{answer-length}
+use Rattle.model.specs.Log.{Entry, lengthAt, nextEntry, entryOk, entriesOk, entryPlace, LaidOut, countOf, offsetOf, trailerOk, valid, find, lies}
+use Rattle.model.specs.Reader.{recordsEnd}
+use Rattle.model.specs.Record.{decode}
+use Rattle.model.specs.Refusal.{bytesLeft, noSpace}
+use Rattle.model.specs.Session.{entriesOf, endOf, initial, logOf, rejected, Read, stopped, all, readFrom, frame, startOf, written, ended, framed, run}
+use Rattle.model.specs.Session as session
+use Rattle.model.specs.Single.{check, apply, admit, command}
+use Rattle.model.specs.Volatile.{Volatile}
+use Rattle.log.specs.LogLaws.{entered, trailed, answered}
+use Rattle.log.specs.Written.{fits-small, entries-small, log-length}
+use Rattle.session.specs.ReadBack.{laid-out}
+use Rattle.session.specs.SessionLaws.{decode-logs}
+
+-- ---- a response
+
+-- of a record of bytes
+pub response-small : (c : List ℕ) (s : Volatile) (x : Call) → Bytes (x .sent) → command c s x .reply .length ≤ 256
+unfolding calls.command
+response-small c s x b = go (admit c s x) refl
+  where
+    go : (d : Decoded Command) → admit c s x ≡ d → calls.carried check decode apply c s (x .space) d .reply .length ≤ 256
+    go (refused n) e = omega arith
+    go (whole k n) e =
+        let a = admitted check decode apply c s x k n e in
+        rw (answer-length at88sc1608 c s k) (fits-small _ _ (decode-logs (x .sent) b k n (a .decodes) .1))
+
+-- ---- an answer of a log
+
+module _ (l : List ℕ) (end : ℕ) where
+  place-small : (n i : ℕ) → entriesOk n l i end ≡ true → (k : ℕ) → k < n → (lengthAt l (entryPlace k l i) ≤ 256) × (entryPlace k l i ≤ i + 259 * k)
+  place-small zero i e k h = absurd (let z : ⊥ = omega arith in z)
+  place-small (suc n) i e zero h = (fits-small _ _ (entered l i end (and-left (entryOk l i end) _ e) .fits), omega arith)
+  place-small (suc n) i e (suc k) h =
+      let f = fits-small _ _ (entered l i end (and-left (entryOk l i end) _ e) .fits) in
+      let p = place-small n (nextEntry l i) (and-right (entryOk l i end) _ e) k (le-of-suc-le-suc h) in
+      (p .0, let q = p .1 in omega arith)
+
+pub answer-small : (l : List ℕ) (k from n : ℕ) → find l k ≡ lies from n → (n ≤ 256) × (from ≤ 259 * 4096)
+unfolding valid
+answer-small l k from n e =
+    let a = answered l k from n e in
+    let t = trailed l (and-left (trailerOk l) _ (a .accepted)) .few in
+    let p = place-small l (offsetOf l) (countOf l) 0 (and-right (trailerOk l) _ (a .accepted)) k (a .counted) in
+    let s = a .start in
+    let z = a .size in
+    let c = a .counted in
+    let q = p .0 in
+    let r = p .1 in
+    (omega arith, omega arith)
+
+-- ---- a log
+
+log-small : (es : List Entry) (card l : List ℕ) → LaidOut es card l → length l ≤ 259 * 4096 + 2185
+log-small es card l w =
+    let s = entries-small es (w .fit) in
+    let f = w .few in
+    let e = log-length es card l w in
+    omega arith
+
+-- of a session of bytes
+pub run-small : (s space : List ℕ) → Bytes s → run s space .length ≤ 259 * 4096 + 2185
+unfolding run
+run-small s space b = on-frame (frame s) refl
+  where
+    on-room : (ks : List Command) (t : Bool) → frame s ≡ 0 → readFrom (session.countOf s) s (startOf s) ≡ all ks (recordsEnd (length s))
+        → ltb (length space) (length (logOf s ks)) ≡ t
+        → cond t (rejected noSpace space) (record { refusal = 0; length = length (logOf s ks); space = logOf s ks ++ drop (length (logOf s ks)) space }) .length ≤ 259 * 4096 + 2185
+    on-room ks true f r q = omega arith
+    on-room ks false f r q =
+        log-small (entriesOf ks (initial s)) (endOf ks (initial s) .card) (logOf s ks)
+        (laid-out s space ks b (record { frames = f; reads = r; room = ltb-false _ _ q }))
+
+    on-end : (ks : List Command) (i : ℕ) (t : Bool) → frame s ≡ 0 → readFrom (session.countOf s) s (startOf s) ≡ all ks i → eqb i (recordsEnd (length s)) ≡ t
+        → cond (not t) (rejected bytesLeft space) (written (logOf s ks) space) .length ≤ 259 * 4096 + 2185
+    on-end ks i true f r q = on-room ks (ltb (length space) (length (logOf s ks))) f (r ∙ ap (all ks) (eqb-true i (recordsEnd (length s)) q)) refl
+    on-end ks i false f r q = omega arith
+
+    on-read : (x : Read) → frame s ≡ 0 → readFrom (session.countOf s) s (startOf s) ≡ x → ended s space x .length ≤ 259 * 4096 + 2185
+    on-read (stopped n) f r = omega arith
+    on-read (all ks i) f r = on-end ks i (eqb i (recordsEnd (length s))) f r refl
+
+    on-frame : (n : ℕ) → frame s ≡ n → framed s space n .length ≤ 259 * 4096 + 2185
+    on-frame zero f = on-read (readFrom (session.countOf s) s (startOf s)) f refl
+    on-frame (suc n) f = omega arith

@@ -1,0 +1,5 @@
+pub mod State
+pub mod Exports
+pub mod StateLaws
+pub mod CommandLaws
+pub mod Lengths

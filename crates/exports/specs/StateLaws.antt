@@ -1,0 +1,92 @@
+-- Laws of the four bytes: states in range and the bytes that stand for a state are each other's.
+use Prim.Native.Nat.{ℕ, _<_}
+use mathlib.Core.Bool.{Bool, true, false, cond, _&&_, true≢false}
+use mathlib.Core.List.{List, [], _∷_}
+use mathlib.Core.Path.{_≡_, refl, sym}
+use native.Mathlib.Omega.{arith}
+use borrow.Author.Tests.{eqb-true, eqb-false, ltb-true}
+use lib.Dec.{ltb, eqb}
+use lib.ListN.{length}
+use Rattle.model.specs.Lists.{at, and-left, and-right}
+use Rattle.model.specs.At88sc1608.{at88sc1608}
+use Rattle.model.specs.Single.{activeBelow, stateInRange}
+use Rattle.model.specs.Volatile.{Volatile, Active, none, selector, Authentication, idle, begun, granted}
+use Rattle.exports.specs.State.{activeFlag, activeSelector, authenticationByte, stateBytes, activeInRange, isState, activeRead, authenticationRead, stateOf}
+
+abbrev state : ℕ → Active → Authentication → Volatile
+state z a u = record { zone = z; active = a; authentication = u }
+
+-- bytes that stand for a state are four
+pub state-long : (b : List ℕ) → isState b ≡ true → length b ≡ 4
+unfolding isState
+state-long b e = eqb-true _ _ (and-left (eqb (length b) 4) _ e)
+
+-- a state in range is read back from its bytes
+pub state-read : (v : Volatile) → stateInRange at88sc1608 v ≡ true → stateOf (stateBytes v) ≡ v
+unfolding stateOf isState
+state-read v e = go (v .active) (v .authentication) (and-left (ltb (v .zone) 8) _ e) (and-right (ltb (v .zone) 8) _ e)
+  where
+    go : (a : Active) (u : Authentication) → ltb (v .zone) 8 ≡ true → activeBelow 16 a ≡ true → stateOf (stateBytes (state (v .zone) a u)) ≡ state (v .zone) a u
+    go none idle z k = rw z
+    go none begun z k = rw z
+    go none granted z k = rw z
+    go (selector j) idle z k = rw (z, k)
+    go (selector j) begun z k = rw (z, k)
+    go (selector j) granted z k = rw (z, k)
+
+active-range : (f k : ℕ) → activeInRange f k ≡ true → activeBelow 16 (activeRead f k) ≡ true
+active-range f k e = flag (eqb f 0) e
+  where
+    flag : (t : Bool) → cond t (eqb k 0) (eqb f 1 && ltb k 16) ≡ true → activeBelow 16 (cond t none (selector k)) ≡ true
+    flag true e = refl
+    flag false e = and-right (eqb f 1) _ e
+
+read-range : (b : List ℕ) → isState b ≡ true → stateInRange at88sc1608 (state (at b 0) (activeRead (at b 1) (at b 2)) (authenticationRead (at b 3))) ≡ true
+unfolding isState
+read-range b e =
+    let p = and-right (eqb (length b) 4) _ e in
+    let q = and-right (ltb (at b 3) 3) _ (and-right (ltb (at b 0) 8) _ p) in
+    rw (and-left (ltb (at b 0) 8) _ p) (active-range (at b 1) (at b 2) q)
+
+-- bytes that stand for a state are read as one in range, all others as one out of range
+pub state-range : (b : List ℕ) → stateInRange at88sc1608 (stateOf b) ≡ isState b
+unfolding stateOf
+state-range b = go (isState b) refl
+  where
+    go : (t : Bool) → isState b ≡ t → stateInRange at88sc1608 (cond t (state (at b 0) (activeRead (at b 1) (at b 2)) (authenticationRead (at b 3))) (state 255 none idle)) ≡ t
+    go true e = read-range b e
+    go false e = refl
+
+-- and bytes that stand for a state are written back
+pub state-written : (b : List ℕ) → isState b ≡ true → stateBytes (stateOf b) ≡ b
+unfolding stateOf isState
+state-written (z ∷ f ∷ k ∷ u ∷ []) e =
+    rw e
+    (λ i. z ∷ active (and-right (ltb u 3) _ q) .0 i ∷ active (and-right (ltb u 3) _ q) .1 i ∷ authentication (ltb-true u 3 (and-left (ltb u 3) _ q)) i ∷ [])
+  where
+    q : (ltb u 3 && activeInRange f k) ≡ true
+    q = and-right (ltb z 8) _ e
+
+    active : activeInRange f k ≡ true → (activeFlag (activeRead f k) ≡ f) × (activeSelector (activeRead f k) ≡ k)
+    active e = flag (eqb f 0) refl e
+      where
+        flag : (t : Bool) → eqb f 0 ≡ t → cond t (eqb k 0) (eqb f 1 && ltb k 16) ≡ true
+            → (activeFlag (cond t none (selector k)) ≡ f) × (activeSelector (cond t none (selector k)) ≡ k)
+        flag true p e = (sym (eqb-true f 0 p), sym (eqb-true k 0 e))
+        flag false p e = (sym (eqb-true f 1 (and-left (eqb f 1) _ e)), refl)
+
+    authentication : u < 3 → authenticationByte (authenticationRead u) ≡ u
+    authentication h = zeroth (eqb u 0) refl
+      where
+        first : (t : Bool) → eqb u 1 ≡ t → (u ≡ 0 → ⊥) → authenticationByte (cond t begun granted) ≡ u
+        first true p n = sym (eqb-true u 1 p)
+        first false p n = let m = eqb-false u 1 p in let w : 2 ≡ u = omega arith in w
+
+        zeroth : (t : Bool) → eqb u 0 ≡ t → authenticationByte (cond t idle (cond (eqb u 1) begun granted)) ≡ u
+        zeroth true p = sym (eqb-true u 0 p)
+        zeroth false p = first (eqb u 1) refl (eqb-false u 0 p)
+state-written [] e = absurd (true≢false (sym e))
+state-written (z ∷ []) e = absurd (true≢false (sym e))
+state-written (z ∷ f ∷ []) e = absurd (true≢false (sym e))
+state-written (z ∷ f ∷ k ∷ []) e = absurd (true≢false (sym e))
+state-written (z ∷ f ∷ k ∷ u ∷ t ∷ l) e = absurd (let h = state-long (z ∷ f ∷ k ∷ u ∷ t ∷ l) e in let w : ⊥ = omega arith in w)

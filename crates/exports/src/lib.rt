@@ -1,0 +1,55 @@
+// The C interface: a session, a single command, an answer of a log. Slices pass as a pointer and a length.
+ghost use mathlib.Core.Path.{_≡_};
+ghost use Rattle.model.specs.Log as model;
+ghost use Rattle.exports.specs.Exports.{runCall, exportedRun, commandCall, exportedCommand, exportedAnswer};
+use crate::result::answer_number;
+use crate::result::result_number;
+use crate::state::read_state;
+use crate::state::write_state;
+use command::command;
+use log::find::Found;
+use log::find::find;
+use record::refusal::number as refusal_number;
+use session::run;
+
+pub mod result;
+pub mod state;
+
+// A session run: the refusal's number, or 0, and 2^8 times the log's length.
+#[no_mangle]
+pub extern "C" fn at88sc1608_run(session: &[u8], log: &mut [u8]) -> u64
+    ensures { λ r. ⌜ runCall r (now (log .exit)) ≡ exportedRun (now (session .entry)) (now (log .entry)) ⌝ }
+{
+    let ran = run(session, log);
+    let outcome = ran.outcome;
+    result_number(outcome, ran.length)
+}
+
+// One command: the refusal's number, or 0, and 2^8 times the response's length.
+#[no_mangle]
+pub extern "C" fn at88sc1608_command(
+    card: &mut [u8],
+    state: &mut [u8],
+    record: &[u8],
+    response: &mut [u8],
+) -> u64
+    ensures { λ r. ⌜ commandCall r (now (card .exit)) (now (state .exit)) (now (response .exit)) ≡ exportedCommand (now (card .entry)) (now (state .entry)) (now («record» .entry)) (now (response .entry)) ⌝ }
+{
+    let before = read_state(state);
+    let reply = command(card, before, record, response);
+    let outcome = reply.outcome;
+    let after = reply.state;
+    write_state(state, outcome, after);
+    result_number(outcome, reply.length)
+}
+
+// An answer of a log, from 0: the refusal's number, or 0, 2^8 times its length and 2^40 times where it begins.
+#[no_mangle]
+pub extern "C" fn at88sc1608_answer(log: &[u8], number: u64) -> u64
+    ensures { λ r. ⌜ r ≡ exportedAnswer (model.find (now (log .entry)) number) ⌝ }
+{
+    match find(log, number as usize) {
+        Found::Refused(why) => refusal_number(why) as u64,
+        Found::At(from, length) => answer_number(from, length),
+    }
+}

@@ -1,0 +1,38 @@
+// The numbers that the exported functions give back.
+ghost use mathlib.Core.Path.{_≡_};
+ghost use Prim.Native.Nat.{_*_, _≤_, _^_};
+ghost use Rattle.model.specs.Log.{lies};
+ghost use Rattle.command.specs.Reply.{outcomeNumber};
+ghost use Rattle.exports.specs.Exports.{result, exportedAnswer};
+use command::Outcome;
+use record::refusal::number;
+
+// The refusal's number, or 0.
+fn outcome_number(outcome: Outcome) -> u8
+    ensures { λ r. ⌜ r ≡ outcomeNumber outcome ⌝ }
+{
+    match outcome {
+        Outcome::Accepted => 0,
+        Outcome::Refused(why) => number(why),
+    }
+}
+
+// helper: that number with 2^8 times a length.
+pub fn result_number(outcome: Outcome, length: usize) -> u64
+    requires { ⌜ length ≤ 2 ^ 32 ⌝ }
+    ensures { λ r. ⌜ r ≡ result (outcomeNumber outcome) length ⌝ }
+{
+    let refusal = outcome_number(outcome) as u64;
+    let long = length as u64;
+    refusal + 256 * long
+}
+
+// helper: 2^8 times an answer's length and 2^40 times where it begins.
+pub fn answer_number(from: usize, length: usize) -> u64
+    requires { ⌜ (length ≤ 256) × (from ≤ 259 * 4096) ⌝ }
+    ensures { λ r. ⌜ r ≡ exportedAnswer (lies from length) ⌝ }
+{
+    let start = from as u64;
+    let long = length as u64;
+    256 * long + 1099511627776 * start
+}

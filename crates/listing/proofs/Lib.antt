@@ -1,0 +1,3 @@
+mod PutLaws
+mod LineLaws
+mod ListLaws

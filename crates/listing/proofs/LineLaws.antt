@@ -1,0 +1,184 @@
+-- Lines put piece by piece, and the lines of a log entry by entry.
+use Prim.Native.Nat.{ℕ, zero, suc, _+_, _-_, _*_, _≤_, _<_, _^_}
+use mathlib.Core.Bool.{true}
+use mathlib.Core.List.{List, [], _∷_, _++_, append-assoc, append-nil}
+use mathlib.Core.Path.{_≡_, refl, sym, ap, _∙_}
+use native.Mathlib.Omega.{arith}
+use lib.ListN.{length, take, drop, length-append, length-drop}
+use lib.Seq.{getD-take, getD-drop, length-take-le, drop-drop, take-nil, drop-nil, take-all}
+use Rattle.model.specs.Lists.{at, and-left, and-right}
+use Rattle.model.specs.Log.{countOf, offsetOf, lengthAt, entryOk, entriesOk, trailerOk, valid}
+use Rattle.log.specs.LogLaws.{entered, Trailed, trailed}
+use Rattle.listing.specs.Put.{Put}
+use Rattle.listing.specs.Ready.{EntriesReady, LogReady}
+use Rattle.listing.specs.Text.{hex, hexes, decimal, line, fusesLine}
+use Rattle.listing.specs.TextLaws.{hexes-length}
+use Rattle.listing.specs.Listing.{linesAt, logLines}
+use Rattle.listing.proofs.PutLaws.{put-then}
+
+-- ---- one line
+
+-- the part of an entry behind its first three bytes
+pub response-part : (e : List ℕ) → 3 ≤ length e → take (length e - 3) (drop 3 e) ≡ drop 3 e
+response-part e h = take-all (length e - 3) (drop 3 e) (let a = length-drop 3 e in omega arith)
+
+module _ (number kind : ℕ) (response : List ℕ) where
+  pub line-is : length (line number kind response) ≡ length (decimal number) + 3 + 3 * length response + 1
+  line-is =
+      let x = hexes-length (kind ∷ response) in
+      let a = length-append (decimal number) (hexes (kind ∷ response) ++ (0x0A ∷ [])) in
+      let b = length-append (hexes (kind ∷ response)) (0x0A ∷ []) in
+      omega arith
+
+  pub line-put : (l : List ℕ) (i : ℕ) (l₁ : List ℕ) (i₁ : ℕ) (l₂ : List ℕ) (i₂ : ℕ) (l₃ : List ℕ) (i₃ : ℕ) (l₄ : List ℕ) (i₄ : ℕ)
+      → Put l i (decimal number) l₁ i₁ → Put l₁ i₁ (hex kind) l₂ i₂ → Put l₂ i₂ (hexes response) l₃ i₃ → Put l₃ i₃ (0x0A ∷ []) l₄ i₄ → Put l i (line number kind response) l₄ i₄
+  line-put l i l₁ i₁ l₂ i₂ l₃ i₃ l₄ i₄ p q r s =
+      put-then l i (decimal number) l₁ i₁ (hexes (kind ∷ response) ++ (0x0A ∷ [])) l₄ i₄ p
+      (put-then l₁ i₁ (hexes (kind ∷ response)) l₃ i₃ (0x0A ∷ []) l₄ i₄ (put-then l₁ i₁ (hex kind) l₂ i₂ (hexes response) l₃ i₃ q r) s)
+
+-- a word, a text and the end of the line
+pub word-put : (word text l : List ℕ) (i : ℕ) (l₁ : List ℕ) (i₁ : ℕ) (l₂ : List ℕ) (i₂ : ℕ) (l₃ : List ℕ) (i₃ : ℕ)
+    → Put l i word l₁ i₁ → Put l₁ i₁ text l₂ i₂ → Put l₂ i₂ (0x0A ∷ []) l₃ i₃ → Put l i (word ++ (text ++ (0x0A ∷ []))) l₃ i₃
+word-put word text l i l₁ i₁ l₂ i₂ l₃ i₃ p q r =
+    put-then l i word l₁ i₁ (text ++ (0x0A ∷ [])) l₃ i₃ p (put-then l₁ i₁ text l₂ i₂ (0x0A ∷ []) l₃ i₃ q r)
+
+-- ---- the entries of a log
+
+-- the first i lines are put, and the rest make up the whole
+pub record Lining (text l : List ℕ) (count end i place to : ℕ) (text′ : List ℕ) : Type 0 where
+  pub few : i ≤ count
+  pub well : entriesOk (count - i) l place end ≡ true
+  pub within : end ≤ length l
+  pub done : List ℕ
+  pub front : Put text 0 done text′ to
+  pub whole : done ++ linesAt (count - i) i l place ≡ linesAt count 0 l 0
+  pub small : length (linesAt count 0 l 0) < 2 ^ 64
+
+pub lining-start : (text l : List ℕ) (count end : ℕ) → EntriesReady l count end → Lining text l count end 0 0 0 text
+lining-start text l count end r =
+    let z : count - 0 ≡ count = omega arith in
+    record {
+      few = omega arith;
+      well = rw z (r .well);
+      within = r .within;
+      done = [];
+      front = record { bytes = refl; past = refl };
+      whole = ap (λ (n : ℕ). linesAt n 0 l 0) z;
+      small = r .small;
+    }
+
+drop-take : (k n : ℕ) (l : List ℕ) → drop k (take (k + n) l) ≡ take n (drop k l)
+drop-take zero n l = ap (λ (m : ℕ). take m l) (let z : 0 + n ≡ n = omega arith in z)
+drop-take (suc k) n [] = rw (take-nil {A = ℕ} (suc k + n), drop-nil {A = ℕ} (suc k), take-nil {A = ℕ} n)
+drop-take (suc k) n (x ∷ l) = ap (λ (m : ℕ). drop (suc k) (take m (x ∷ l))) (let z : suc k + n ≡ suc (k + n) = omega arith in z) ∙ drop-take k n l
+
+module _ (text l : List ℕ) (count end i place to : ℕ) (text′ : List ℕ) (g : Lining text l count end i place to text′) (more : i < count) where
+  one-fewer : count - i ≡ suc (count - (i + 1))
+  one-fewer = omega arith
+
+  here : entryOk l place end ≡ true
+  here = and-left (entryOk l place end) _ (sym (ap (λ (n : ℕ). entriesOk n l place end) one-fewer) ∙ g .well)
+
+  pub header-within : place + 3 ≤ length l
+  header-within = let e = entered l place end here .header in let w = g .within in omega arith
+
+  module _ (n : ℕ) (long : n ≡ lengthAt l place) where
+    pub entry-ends : place + 3 + n ≤ length l
+    entry-ends = let e = entered l place end here .next in let w = g .within in let o = long in omega arith
+
+    -- the part of the log that is this entry
+    abbrev part : List ℕ
+    part = take (place + 3 + n - place) (drop place l)
+
+    pub part-long : 3 ≤ length part
+    part-long =
+        let e = entry-ends in
+        let a = length-drop place l in
+        let b = length-take-le (place + 3 + n - place) (drop place l) (omega arith) in
+        omega arith
+
+    -- its line is the next of the log's
+    same-line : line i (at part 0) (drop 3 part) ≡ line i (at l place) (take (lengthAt l place) (drop (place + 3) l))
+    same-line =
+        let e : place + 3 + n - place ≡ 3 + n = omega arith in
+        let z : place + 0 ≡ place = omega arith in
+        rw (
+          getD-take (place + 3 + n - place) (drop place l) 0 0 (omega arith),
+          getD-drop place l 0 0,
+          z,
+          e,
+          drop-take 3 n (drop place l),
+          drop-drop 3 place l,
+          long,
+        )
+
+    next-lines : linesAt (count - i) i l place ≡ line i (at part 0) (drop 3 part) ++ linesAt (count - (i + 1)) (i + 1) l (place + 3 + n)
+    next-lines =
+        let z : suc i ≡ i + 1 = omega arith in
+        ap (λ (m : ℕ). linesAt m i l place) one-fewer
+        ∙ rw (same-line, z, long)
+
+    pub line-fits : to + length (line i (at part 0) (drop 3 part)) < 2 ^ 64
+    line-fits =
+        let a = g .front .past in
+        let b = length-append (g .done) (linesAt (count - i) i l place) in
+        let c = ap length (g .whole) in
+        let d = ap length next-lines ∙ length-append (line i (at part 0) (drop 3 part)) (linesAt (count - (i + 1)) (i + 1) l (place + 3 + n)) in
+        let s = g .small in
+        omega arith
+
+    pub lining-next : (to′ : ℕ) (text″ : List ℕ) → Put text′ to (line i (at part 0) (drop 3 part)) text″ to′ → Lining text l count end (i + 1) (place + 3 + n) to′ text″
+    lining-next to′ text″ q =
+        record {
+          few = omega arith;
+          well = rw long (and-right (entryOk l place end) _ (sym (ap (λ (m : ℕ). entriesOk m l place end) one-fewer) ∙ g .well));
+          within = g .within;
+          done = g .done ++ line i (at part 0) (drop 3 part);
+          front = put-then text 0 (g .done) text′ to (line i (at part 0) (drop 3 part)) text″ to′ (g .front) q;
+          whole = append-assoc (g .done) (line i (at part 0) (drop 3 part)) _ ∙ ap (λ (x : List ℕ). g .done ++ x) (sym next-lines) ∙ g .whole;
+          small = g .small;
+        }
+
+pub lining-done : (text l : List ℕ) (count end i place to : ℕ) (text′ : List ℕ) → Lining text l count end i place to text′ → count ≤ i → Put text 0 (linesAt count 0 l 0) text′ to
+lining-done text l count end i place to text′ g h =
+    let z : count - i ≡ 0 = omega arith in
+    let e : linesAt count 0 l 0 ≡ g .done = sym (g .whole) ∙ ap (λ (n : ℕ). g .done ++ linesAt n i l place) z ∙ append-nil (g .done) in
+    rw e (g .front)
+
+-- ---- a log
+
+module _ (l : List ℕ) (r : LogReady l) where
+  pub log-trailed : Trailed l
+  unfolding valid
+  log-trailed = trailed l (and-left (trailerOk l) _ (r .well))
+
+  pub log-long : length (logLines l) ≡ length (linesAt (countOf l) 0 l 0) + 9
+  log-long = length-append (linesAt (countOf l) 0 l 0) (fusesLine (at l (offsetOf l + 2176)))
+
+  module _ (count end : ℕ) (counted : count ≡ countOf l) (points : end ≡ offsetOf l) where
+    pub entries-ready : EntriesReady l count end
+    unfolding valid
+    entries-ready =
+        record {
+          well = rw (counted, points) (and-right (trailerOk l) _ (r .well));
+          within = let m = log-trailed .meets in let p = points in omega arith;
+          small = rw counted (let s = r .small in let a = log-long in omega arith);
+        }
+
+    pub log-put : (t t₁ : List ℕ) (i₁ : ℕ) (t₂ : List ℕ) (i₂ : ℕ) (t₃ : List ℕ) (i₃ : ℕ) (t₄ : List ℕ) (i₄ : ℕ)
+        → Put t 0 (linesAt count 0 l 0) t₁ i₁ → Put t₁ i₁ (0x66 ∷ 0x75 ∷ 0x73 ∷ 0x65 ∷ 0x73 ∷ []) t₂ i₂ → Put t₂ i₂ (hex (at l (end + 2176))) t₃ i₃ → Put t₃ i₃ (0x0A ∷ []) t₄ i₄
+        → Put t 0 (logLines l) t₄ i₄
+    log-put t t₁ i₁ t₂ i₂ t₃ i₃ t₄ i₄ p q s u =
+        rw (← counted, ← points) (put-then t 0 (linesAt count 0 l 0) t₁ i₁ (fusesLine (at l (end + 2176))) t₄ i₄ p (word-put (0x66 ∷ 0x75 ∷ 0x73 ∷ 0x65 ∷ 0x73 ∷ []) (hex (at l (end + 2176))) t₁ i₁ t₂ i₂ t₃ i₃ t₄ i₄ q s u))
+
+    -- the line of the fuses has room behind the entries' lines
+    pub entries-room : (t t₁ : List ℕ) (i₁ : ℕ) → Put t 0 (linesAt count 0 l 0) t₁ i₁ → i₁ + 9 < 2 ^ 64
+    entries-room t t₁ i₁ p =
+        let a = p .past in
+        let b = log-long in
+        let c = ap (λ (n : ℕ). length (linesAt n 0 l 0)) counted in
+        let s = r .small in
+        omega arith
+
+    pub fuses-within : end + 2176 < length l
+    fuses-within = let m = log-trailed .meets in let p = points in omega arith

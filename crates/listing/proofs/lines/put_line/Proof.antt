@@ -1,0 +1,58 @@
+-- A number, the kind, the response, the end of the line.
+use Prim.Native.Nat.{ℕ, _+_}
+use borrow.Author.Needs.{needs}
+use lib.ListN.{length, drop}
+use mathlib.Core.List.{List}
+use mathlib.Core.Path.{ap, _∙_}
+use native.Mathlib.Omega.{arith}
+use Rattle.listing.specs.Text.{hexes}
+use Rattle.listing.specs.TextLaws.{hexes-length}
+use Rattle.model.specs.Lists as lists
+use Rattle.listing.proofs.LineLaws.{response-part, line-is, line-put}
+use Rattle.listing.proofs.lines.put_line.Statement.{statement}
+use Rattle.listing.proofs.lines.put_line.Tie as tie
+
+put-decimal-requires : tie.Need-put-decimal-requires
+put-decimal-requires c κs = let l = line-is (c .before .before .before .args .number) (lists.at (c .before .before .before .args .entry .now) 0) (drop 3 (c .before .before .before .args .entry .now)) in let p = c .before .before .before .pre .1 in omega arith
+
+shared-slice-read-put-hex : tie.Need-shared-slice-read-put-hex
+shared-slice-read-put-hex c = search needs
+
+put-hex-requires : tie.Need-put-hex-requires
+put-hex-requires c κs = let l = line-is (c .before .before .before .before .before .before .before .before .args .number) (lists.at (c .before .before .before .before .before .before .before .before .args .entry .now) 0) (drop 3 (c .before .before .before .before .before .before .before .before .args .entry .now)) in let p = c .before .before .before .before .before .before .before .before .pre .1 in let d = c .before .before .before .before .put-decimal .ensures .past in omega arith
+
+sub-put-hexes : tie.Need-sub-put-hexes
+sub-put-hexes c = search needs
+
+part-put-hexes-start : tie.Need-part-put-hexes-start
+part-put-hexes-start c = search needs
+
+part-put-hexes-end : tie.Need-part-put-hexes-end
+part-put-hexes-end c = search needs
+
+put-hexes-requires : tie.Need-put-hexes-requires
+put-hexes-requires c κs = let l = line-is (c .before .before .before .before .before .before .before .before .before .before .before .before .before .args .number) (lists.at (c .before .before .before .before .before .before .before .before .before .before .before .before .before .args .entry .now) 0) (drop 3 (c .before .before .before .before .before .before .before .before .before .before .before .before .before .args .entry .now)) in let p = c .before .before .before .before .before .before .before .before .before .before .before .before .before .pre .1 in let d = c .before .before .before .before .before .before .before .before .before .put-decimal .ensures .past in let h = c .before .before .before .before .put-hex .ensures .past in rw (response-part (c .before .before .before .before .before .before .before .before .before .before .before .before .before .args .entry .now) (c .before .before .before .before .before .before .before .before .before .before .before .before .before .pre .0)) (omega arith)
+
+put-requires : tie.Need-put-requires
+put-requires c κs = let l = line-is (c .before .before .before .before .before .before .before .before .before .before .before .before .before .before .before .before .before .args .number) (lists.at (c .before .before .before .before .before .before .before .before .before .before .before .before .before .before .before .before .before .args .entry .now) 0) (drop 3 (c .before .before .before .before .before .before .before .before .before .before .before .before .before .before .before .before .before .args .entry .now)) in let p = c .before .before .before .before .before .before .before .before .before .before .before .before .before .before .before .before .before .pre .1 in let d = c .before .before .before .before .before .before .before .before .before .before .before .before .before .put-decimal .ensures .past in let h = c .before .before .before .before .before .before .before .before .put-hex .ensures .past in let x = c .before .before .before .put-hexes .ensures .past ∙ ap (λ (r : List ℕ). c .before .before .before .before .before .before .before .before .put-hex .result + length (hexes r)) (response-part (c .before .before .before .before .before .before .before .before .before .before .before .before .before .before .before .before .before .args .entry .now) (c .before .before .before .before .before .before .before .before .before .before .before .before .before .before .before .before .before .pre .0)) in let y = hexes-length (drop 3 (c .before .before .before .before .before .before .before .before .before .before .before .before .before .before .before .before .before .args .entry .now)) in omega arith
+
+same-length : tie.Need-same-length
+same-length c = search needs
+
+returns : tie.Need-returns
+returns c = line-put _ (lists.at (c .before .before .before .before .before .before .before .before .before .before .before .before .before .before .before .before .before .before .before .before .args .entry .now) 0) (drop 3 (c .before .before .before .before .before .before .before .before .before .before .before .before .before .before .before .before .before .before .before .before .args .entry .now)) _ _ _ _ _ _ _ _ _ _ (c .before .before .before .before .before .before .before .before .before .before .before .before .before .before .before .before .put-decimal .ensures) (c .before .before .before .before .before .before .before .before .before .before .before .put-hex .ensures) (rw (response-part (c .before .before .before .before .before .before .before .before .before .before .before .before .before .before .before .before .before .before .before .before .args .entry .now) (c .before .before .before .before .before .before .before .before .before .before .before .before .before .before .before .before .before .before .before .before .pre .0)) at (c .before .before .before .before .before .before .put-hexes .ensures)) (c .before .before .put .ensures)
+
+pub put-line-spec : {M : Type 1} → statement M
+put-line-spec =
+    tie.close
+    (tie.spec
+    put-decimal-requires
+    shared-slice-read-put-hex
+    put-hex-requires
+    sub-put-hexes
+    part-put-hexes-start
+    part-put-hexes-end
+    put-hexes-requires
+    put-requires
+    same-length
+    returns)

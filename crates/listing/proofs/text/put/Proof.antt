@@ -1,0 +1,27 @@
+-- Beyond the space, or in it.
+use borrow.Author.Needs.{needs}
+use Rattle.listing.proofs.PutLaws.{put-past, put-in}
+use Rattle.listing.proofs.text.put.Statement.{statement}
+use Rattle.listing.proofs.text.put.Tie as tie
+
+add-result : tie.Need-add-result
+add-result c = search needs
+
+returns : tie.Need-returns
+returns c = put-past _ _ _ (c .if1 .taken)
+
+slice-write-text : tie.Need-slice-write-text
+slice-write-text c = search needs
+
+add-result-2 : tie.Need-add-result-2
+add-result-2 c = search needs
+
+same-length : tie.Need-same-length
+same-length c = search needs
+
+returns-2 : tie.Need-returns-2
+returns-2 c = put-in _ _ _
+
+pub put-spec : {M : Type 1} → statement M
+put-spec =
+    tie.close (tie.spec add-result returns slice-write-text add-result-2 same-length returns-2)

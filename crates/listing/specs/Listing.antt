@@ -1,0 +1,47 @@
+-- The listing of a session, and of a log as it stands in memory.
+use Prim.Native.Nat.{ℕ, zero, suc, _+_, min}
+use mathlib.Core.List.{List, [], _++_}
+use lib.ListN.{length, take, drop}
+use lib.Seq.{sets}
+use Rattle.model.specs.Lists.{at}
+use Rattle.model.specs.Command.{Command}
+use Rattle.model.specs.Log.{countOf, offsetOf, lengthAt, nextEntry}
+use Rattle.model.specs.Session.{Read, stopped, all, readFrom, entriesOf, endOf, initial, run}
+use Rattle.model.specs.Session as session
+use Rattle.listing.specs.Text.{line, lines, fusesLine, refusedLine}
+
+-- the commands of a session
+abbrev pub commandsIn : Read → List Command
+commandsIn (stopped n) = []
+commandsIn (all ks i) = ks
+
+abbrev pub commandsOf : List ℕ → List Command
+commandsOf s = commandsIn (readFrom (session.countOf s) s (session.startOf s))
+
+-- a line per record and F at the end; or the refusal alone
+abbrev pub listed : List ℕ → ℕ → List ℕ
+listed s zero = lines 0 (entriesOf (commandsOf s) (initial s)) ++ fusesLine (at (endOf (commandsOf s) (initial s) .card) 2176)
+listed s (suc n) = refusedLine (suc n)
+
+-- of a session that is run in a log space
+unfoldable pub listing : List ℕ → List ℕ → List ℕ
+listing s log = listed s (run s log .refusal)
+
+-- what the call gives back and leaves: how much of the text stands in the text space, the log space, the text space.
+-- Of a text that is longer than its space there is what fits.
+pub record Listed : Type 0 where
+  pub length : ℕ
+  pub log : List ℕ
+  pub text : List ℕ
+
+abbrev pub listIn : List ℕ → List ℕ → List ℕ → Listed
+listIn s log text = record { length = min (length (listing s log)) (length text); log = run s log .space; text = sets text 0 (listing s log) }
+
+-- ---- by places in a log
+
+abbrev pub linesAt : ℕ → ℕ → List ℕ → ℕ → List ℕ
+linesAt zero k l i = []
+linesAt (suc n) k l i = line k (at l i) (take (lengthAt l i) (drop (i + 3) l)) ++ linesAt n (suc k) l (nextEntry l i)
+
+abbrev pub logLines : List ℕ → List ℕ
+logLines l = linesAt (countOf l) 0 l 0 ++ fusesLine (at l (offsetOf l + 2176))

@@ -1,0 +1,53 @@
+-- The listing of a log that was written is its entries' lines, and no listing is longer than three times its log.
+use Prim.Native.Nat.{ℕ, suc, _+_, _*_, _≤_, _<_}
+use mathlib.Core.List.{List, [], _∷_, _++_}
+use mathlib.Core.Path.{_≡_, refl, ap, _∙_}
+use native.Mathlib.Omega.{arith}
+use lib.ListN.{length, length-append, List·getD-append}
+use lib.Seq.{getD-append-add, length-sets}
+use Rattle.model.specs.Lists.{at}
+use Rattle.model.specs.Log.{Entry, entryBytes, entriesBytes, logTrailer, AllFit, LaidOut}
+use Rattle.log.specs.Written.{length-entry, kind-at, response-at, next-at, fits-two, first-entry, other-entries, offset-is, count-is, log-length}
+use Rattle.listing.specs.Text.{line, lines, fusesLine}
+use Rattle.listing.specs.TextLaws.{line-length}
+use Rattle.listing.specs.Listing.{linesAt, logLines, listing, Listed, listIn}
+
+entries-listed : (es : List Entry) (p q : List ℕ) (k : ℕ) → AllFit es → linesAt (length es) k (p ++ (entriesBytes es ++ q)) (length p) ≡ lines k es
+entries-listed [] p q k f = refl
+entries-listed (e ∷ es) p q k f =
+    let h : length (e .response) < 65536 = fits-two e (f .1) in
+    let rest = entries-listed es (p ++ entryBytes e) q (suc k) (f .2) in
+    rw (first-entry p e es q, kind-at p e (entriesBytes es ++ q), response-at p e (entriesBytes es ++ q) h, next-at p e (entriesBytes es ++ q) h)
+    (ap (λ (x : List ℕ). line k (e .kind) (e .response) ++ x) (rw (other-entries p e es q) at rest))
+
+module _ (es : List Entry) (card l : List ℕ) (w : LaidOut es card l) where
+  pub log-listed : logLines l ≡ lines 0 es ++ fusesLine (at card 2176)
+  log-listed =
+      let o = w .long in
+      rw (count-is es card l w, offset-is es card l w, w .same, getD-append-add (entriesBytes es) (card ++ logTrailer (length (entriesBytes es)) (length es)) 2176 0, List·getD-append card (logTrailer (length (entriesBytes es)) (length es)) 0 2176 (omega arith))
+      (ap (λ (x : List ℕ). x ++ fusesLine (at card 2176)) (entries-listed es [] (card ++ logTrailer (length (entriesBytes es)) (length es)) 0 (w .fit)))
+
+lines-length : (es : List Entry) (k : ℕ) → k + length es ≤ 10000 → length (lines k es) ≤ 3 * length (entriesBytes es)
+lines-length [] k h = omega arith
+lines-length (e ∷ es) k h =
+    let r = lines-length es (suc k) (omega arith) in
+    let a = length-append (entryBytes e) (entriesBytes es) in
+    let b = length-entry e in
+    let c = line-length k (e .kind) (e .response) (omega arith) in
+    let d = length-append (line k (e .kind) (e .response)) (lines (suc k) es) in
+    omega arith
+
+-- so a text space of three times the log space has room for every listing
+pub listing-length : (es : List Entry) (card l : List ℕ) → LaidOut es card l → length (logLines l) ≤ 3 * length l
+listing-length es card l w =
+    let a = lines-length es 0 (let f = w .few in omega arith) in
+    let b = log-length es card l w in
+    let c = ap length (log-listed es card l w) ∙ length-append (lines 0 es) (fusesLine (at card 2176)) in
+    omega arith
+
+-- what is given back lies within the text space
+pub text-within : (s log text : List ℕ) (r : Listed) → r ≡ listIn s log text → r .length ≤ length (r .text)
+text-within s log text r e =
+    let a = ap (λ (x : Listed). x .length) e in
+    let b = ap (λ (x : Listed). length (x .text)) e ∙ length-sets text 0 (listing s log) in
+    omega arith

@@ -1,0 +1,19 @@
+-- What the lines of a log ask of it.
+use Prim.Native.Nat.{ℕ, _≤_, _<_, _^_}
+use mathlib.Core.Bool.{true}
+use mathlib.Core.List.{List}
+use mathlib.Core.Path.{_≡_}
+use lib.ListN.{length}
+use Rattle.model.specs.Log.{entriesOk, valid}
+use Rattle.listing.specs.Listing.{linesAt, logLines}
+
+-- entries that end at a place before the log's end
+pub record EntriesReady (l : List ℕ) (count end : ℕ) : Type 0 where
+  pub well : entriesOk count l 0 end ≡ true
+  pub within : end ≤ length l
+  pub small : length (linesAt count 0 l 0) < 2 ^ 64
+
+-- a log
+pub record LogReady (l : List ℕ) : Type 0 where
+  pub well : valid l ≡ true
+  pub small : length (logLines l) < 2 ^ 64

@@ -1,0 +1,62 @@
+-- Every listing fits: a text space of three times the log space has room for it, whole.
+use Prim.Native.Nat.{ℕ, zero, suc, _+_, _*_, _≤_, _<_}
+use mathlib.Core.List.{List, [], _∷_, _++_}
+use mathlib.Core.Path.{_≡_, refl, sym}
+use native.Mathlib.Omega.{arith}
+use lib.ListN.{length, length-append}
+use Rattle.model.specs.Lists.{Bytes, choice}
+use Rattle.model.specs.Reader.{partAt}
+use Rattle.model.specs.Record.{recordLength}
+use Rattle.model.specs.Session.{startOf, countOf, logOf, run}
+use Rattle.session.specs.Accepted.{accepted-run}
+use Rattle.session.specs.Conditions.{Condition, recordConditions, recordsConditions, lastConditions, conditions, first, refusal-is}
+use Rattle.session.specs.ReadBack.{laid-out}
+use Rattle.listing.specs.Text.{decimal}
+use Rattle.listing.specs.TextLaws.{decimal-few}
+use Rattle.listing.specs.Listing.{listing, logLines}
+use Rattle.listing.specs.ListingLaws.{log-listed, listing-length}
+
+-- ---- no refusal of a session has more than four digits
+
+abbrev Small : List Condition → Type 0
+Small [] = Unit {0}
+Small (x ∷ xs) = (x .number < 10000) × Small xs
+
+small-append : (xs ys : List Condition) → Small xs → Small ys → Small (xs ++ ys)
+small-append [] ys p q = q
+small-append (x ∷ xs) ys p q = (p .0, small-append xs ys (p .1) q)
+
+first-small : (xs : List Condition) → Small xs → first xs 0 < 10000
+first-small [] p = omega arith
+first-small (x ∷ xs) p = choice (λ n. n < 10000) (x .applies) (x .number) (first xs 0) (p .0) (first-small xs (p .1))
+
+records-small : (n : ℕ) (s : List ℕ) (i : ℕ) → Small (recordsConditions n s i)
+records-small zero s i = tt
+records-small (suc n) s i =
+    small-append (recordConditions (partAt s i)) (recordsConditions n s (i + recordLength (partAt s i))) (omega arith, (omega arith, (omega arith, (omega arith, (omega arith, tt))))) (records-small n s (i + recordLength (partAt s i)))
+
+pub refusal-small : (s log : List ℕ) → run s log .refusal < 10000
+refusal-small s log = rw (refusal-is s log) (first-small (conditions s log) all)
+  where
+    all : Small (conditions s log)
+    all = (omega arith, (omega arith, (omega arith, (omega arith, (omega arith, small-append (recordsConditions (countOf s) s (startOf s)) (lastConditions s log) (records-small (countOf s) s (startOf s)) (omega arith, (omega arith, tt)))))))
+
+-- ---- the listing
+
+pub listing-fits : (s log : List ℕ) → Bytes s → 5 ≤ length log → length (listing s log) ≤ 3 * length log
+unfolding listing
+listing-fits s log bytes room = go (run s log .refusal) refl
+  where
+    go : (n : ℕ) → run s log .refusal ≡ n → length (listing s log) ≤ 3 * length log
+    go zero e =
+        let a = accepted-run s log e in
+        let w = laid-out s log (a .0) bytes (a .1) in
+        let l = listing-length _ _ _ w in
+        let r = a .1 .room in
+        let t : listing s log ≡ logLines (logOf s (a .0)) = rw (e, a .1 .reads) (sym (log-listed _ _ _ w)) in
+        rw t (omega arith)
+    go (suc n) e =
+        let s : suc n < 10000 = rw e at (refusal-small s log) in
+        let d = decimal-few (suc n) s in
+        let a = length-append (decimal (suc n)) (0x0A ∷ []) in
+        rw e (omega arith)

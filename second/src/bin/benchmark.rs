@@ -1,0 +1,108 @@
+//! Measures the proved library against the second implementation on the same sessions and buffers.
+//!
+//! The two take turns in several rounds; the best round of each counts. A ratio above 1 means that
+//! the proved library is the faster one.
+
+#[path = "../../tests/proved/mod.rs"]
+mod proved;
+
+use std::hint::black_box;
+use std::time::{Duration, Instant};
+
+use second::author::Author;
+use second::encoded;
+use second::gen::{self, Rng};
+
+const ROUNDS: usize = 9;
+const ROUND: Duration = Duration::from_millis(40);
+
+type Run = fn(&[u8], &mut [u8]) -> u64;
+type Answer = fn(&[u8], u64) -> u64;
+
+const RUNS: [Run; 2] = [proved::at88sc1608_run, encoded::at88sc1608_run];
+const ANSWERS: [Answer; 2] = [proved::at88sc1608_answer, encoded::at88sc1608_answer];
+
+/// Seconds per call of `work`, over some turns.
+fn seconds(turns: u32, mut work: impl FnMut()) -> f64 {
+    let start = Instant::now();
+    for _ in 0..turns {
+        work();
+    }
+    start.elapsed().as_secs_f64() / f64::from(turns)
+}
+
+/// Best seconds per call of the two sides of `work`.
+fn best(mut work: impl FnMut(usize)) -> [f64; 2] {
+    let turns = [0, 1].map(|side| {
+        let once = seconds(3, || work(side));
+        (ROUND.as_secs_f64() / once).clamp(1.0, 1e7) as u32
+    });
+    let mut best = [f64::INFINITY; 2];
+    for _ in 0..ROUNDS {
+        for side in 0..2 {
+            best[side] = best[side].min(seconds(turns[side], || work(side)));
+        }
+    }
+    best
+}
+
+fn row(name: &str, unit: &str, items: f64, [proved, second]: [f64; 2]) {
+    let (proved, second) = (items / proved, items / second);
+    let ratio = proved / second;
+    println!("{name:<34} {unit:<10} {proved:>14.0} {second:>14.0} {ratio:>7.2}");
+}
+
+fn count(session: &[u8]) -> u64 {
+    let at = session.len() - 4;
+    u64::from(session[at]) + 256 * u64::from(session[at + 1])
+}
+
+fn sessions(name: &str, sessions: &[Vec<u8>], log: &mut [u8]) {
+    let records: u64 = sessions.iter().map(|session| count(session)).sum();
+    let time = best(|side| {
+        for session in sessions {
+            assert_eq!(black_box(RUNS[side](black_box(session), log)) & 0xFF, 0);
+        }
+    });
+    row(name, "sessions", sessions.len() as f64, time);
+    if records > 0 {
+        row(name, "records", records as f64, time);
+    }
+}
+
+fn log_reads(name: &str, session: &[u8], log: &mut [u8]) {
+    let length = (encoded::at88sc1608_run(session, log) >> 8) as usize;
+    let log = &log[..length];
+    let last = count(session) - 1;
+    let time = best(|side| {
+        for number in [0, last] {
+            assert_eq!(black_box(ANSWERS[side](black_box(log), number)) & 0xFF, 0);
+        }
+    });
+    row(name, "reads", 2.0, time);
+}
+
+fn main() {
+    let mut log = vec![0; 1_100_000];
+    let mut rng = Rng::new(2024);
+    let mix: Vec<Vec<u8>> = (0..200).map(|_| gen::session(&mut rng, 60)).collect();
+    let empty = Author::new(0).session();
+    let short = |a: Author| a.power().select(3).read_fuses().begin();
+    let short = Author::new(0).times(1024, short).session();
+    let zone_reads = Author::new(0).times(4096, |a| a.read(0x80, 0)).session();
+    let configuration_reads = Author::new(0).times(4096, |a| a.read_configuration(0, 128));
+    let configuration_reads = configuration_reads.session();
+
+    println!(
+        "{:<34} {:<10} {:>14} {:>14} {:>7}",
+        "workload", "per second", "proved", "second", "ratio"
+    );
+    sessions("realistic mix, 60 records each", &mix, &mut log);
+    sessions("empty session", &[empty], &mut log);
+    sessions("4,096 short records", std::slice::from_ref(&short), &mut log);
+    sessions("4,096 zone reads of 256", std::slice::from_ref(&zone_reads), &mut log);
+    sessions("4,096 configuration reads of 128", &[configuration_reads], &mut log);
+    log_reads("log reads, 60 records", &mix[0], &mut log);
+    log_reads("log reads, 4,096 short records", &short, &mut log);
+    log_reads("log reads, 4,096 zone reads", &zone_reads, &mut log);
+}

@@ -1,0 +1,154 @@
+//! The card's bytes, and what each command does to them and to the volatile state.
+
+use crate::access::{Configuration, Register, Stage};
+use crate::record::Record;
+use crate::volatile::{Authentication, Password, Volatile, Zone};
+
+/// How many bytes a card has: eight zones, the configuration, the fuse byte.
+pub const CARD: usize = 2177;
+
+pub type Card = [u8; CARD];
+
+pub const ZONE: usize = 256;
+pub const PAGE: usize = 16;
+pub const CONFIGURATION: usize = 8 * ZONE;
+pub const FUSES: usize = CARD - 1;
+pub const REGISTERS: usize = CONFIGURATION + 0x10;
+pub const AAC: usize = CONFIGURATION + 0x20;
+pub const CRYPTOGRAM: usize = CONFIGURATION + 0x28;
+
+/// Where the attempts counter of a password lies; its three bytes follow.
+pub fn counter(password: Password) -> usize {
+    match password {
+        Password::Write(set) => CONFIGURATION + 0x40 + 8 * set.number(),
+        Password::Read(set) => CONFIGURATION + 0x44 + 8 * set.number(),
+    }
+}
+
+fn clear_lowest_one(byte: u8) -> u8 {
+    byte & byte.wrapping_sub(1)
+}
+
+fn stage(card: &Card) -> Stage {
+    // Cards are checked before a command runs, so another fuse byte does not come here.
+    Stage::from_fuses(card[FUSES]).unwrap_or(Stage::Per)
+}
+
+fn register(card: &Card, zone: Zone) -> Register {
+    Register(card[REGISTERS + zone.number()])
+}
+
+/// Runs one command; `response` has the length that the record asks for.
+pub fn execute(card: &mut Card, state: &mut Volatile, record: &Record, response: &mut [u8]) {
+    match *record {
+        Record::PowerCycle => *state = Volatile::POWER_UP,
+        Record::Reset => {
+            state.active = None;
+            state.authentication = Authentication::Idle;
+            for (answer, byte) in response.iter_mut().zip(&card[CONFIGURATION..]) {
+                *answer = byte.reverse_bits();
+            }
+        }
+        Record::Select(zone) => state.zone = zone,
+        Record::ReadZone { address, .. } => read_zone(card, state, address, response),
+        Record::WriteZone { address, data } => write_zone(card, state, address, data),
+        Record::ReadConfiguration { address, .. } => {
+            read_configuration(card, state, address, response)
+        }
+        Record::WriteConfiguration { address, data } => {
+            write_configuration(card, state, address, data)
+        }
+        Record::ReadFuses => response[0] = card[FUSES],
+        Record::WriteFuses => {
+            if state.active == Some(Password::SECURITY_CODE) {
+                card[FUSES] = match card[FUSES] {
+                    7 => 6,
+                    6 => 4,
+                    _ => 0,
+                };
+            }
+        }
+        Record::VerifyPassword { password, bytes } => verify_password(card, state, password, bytes),
+        Record::BeginAuthentication => {
+            if card[AAC] != 0 {
+                card[AAC] = clear_lowest_one(card[AAC]);
+                state.authentication = Authentication::Begun;
+            }
+        }
+        Record::VerifyAuthentication { accepted, bytes } => {
+            if state.authentication == Authentication::Begun {
+                if accepted {
+                    card[CRYPTOGRAM..CRYPTOGRAM + 8].copy_from_slice(&bytes);
+                    card[AAC] = 0xFF;
+                    state.authentication = Authentication::Granted;
+                } else {
+                    state.authentication = Authentication::Idle;
+                }
+            }
+        }
+    }
+}
+
+fn read_zone(card: &Card, state: &Volatile, address: u8, response: &mut [u8]) {
+    if !register(card, state.zone).may_read(stage(card), state) {
+        response.fill(0);
+        return;
+    }
+    let base = ZONE * state.zone.number();
+    let zone = &card[base..base + ZONE];
+    let from = usize::from(address);
+    let before_end = response.len().min(ZONE - from);
+    let (first, rolled_over) = response.split_at_mut(before_end);
+    first.copy_from_slice(&zone[from..from + before_end]);
+    rolled_over.copy_from_slice(&zone[..rolled_over.len()]);
+}
+
+fn write_zone(card: &mut Card, state: &Volatile, address: u8, data: &[u8]) {
+    let register = register(card, state.zone);
+    let stage = stage(card);
+    if !register.may_write(stage, state) {
+        return;
+    }
+    let and_only = stage != Stage::Unblown && register.program_only();
+    let address = usize::from(address);
+    let base = ZONE * state.zone.number() + address / PAGE * PAGE;
+    let page = &mut card[base..base + PAGE];
+    for (i, &new) in data.iter().enumerate() {
+        let byte = &mut page[(address + i) % PAGE];
+        *byte = if and_only { *byte & new } else { new };
+    }
+}
+
+fn read_configuration(card: &Card, state: &Volatile, address: u8, response: &mut [u8]) {
+    let rights = Configuration::new(stage(card), state);
+    let from = usize::from(address);
+    for (i, answer) in response.iter_mut().enumerate() {
+        *answer = if rights.may_read(from + i) { card[CONFIGURATION + from + i] } else { 0 };
+    }
+}
+
+fn write_configuration(card: &mut Card, state: &Volatile, address: u8, data: &[u8]) {
+    let rights = Configuration::new(stage(card), state);
+    let address = usize::from(address);
+    let page = address / PAGE * PAGE;
+    for (i, &new) in data.iter().enumerate() {
+        let place = page + (address + i) % PAGE;
+        if rights.may_write(place) {
+            card[CONFIGURATION + place] = new;
+        }
+    }
+}
+
+fn verify_password(card: &mut Card, state: &mut Volatile, password: Password, bytes: [u8; 3]) {
+    let at = counter(password);
+    if card[at] == 0 {
+        return;
+    }
+    if card[at + 1..at + 4] == bytes {
+        card[at] = 0xFF;
+        state.active = Some(password);
+    } else {
+        card[at] = clear_lowest_one(card[at]);
+        state.active = None;
+    }
+}

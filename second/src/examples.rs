@@ -1,0 +1,123 @@
+//! The examples a newcomer can run; each says in its free text what it shows.
+
+use crate::author::{password, Author};
+
+pub struct Example {
+    pub name: &'static str,
+    pub session: Vec<u8>,
+}
+
+/// The paper's printed example, without free text.
+pub fn printed() -> Author {
+    Author::new(6).put_configuration(0x38, &[0xA5, 0x5A]).read_fuses().read_configuration(0x38, 2)
+}
+
+fn personalised() -> Author {
+    Author::new(7)
+        .text(
+            b"A card is written, personalised and sealed step by step; zone 2 then wants set 3.\n",
+        )
+        .write_configuration(0x12, &[0b0010_1111])
+        .select(2)
+        .write(0x00, b"account 00001234")
+        .read_fuses()
+        .right(7)
+        .write_fuses()
+        .read_fuses()
+        .write_configuration(0x0C, b"MFR1")
+        .write_fuses()
+        .read_fuses()
+        .write_configuration(0x21, b"ID00001")
+        .write_configuration(0x59, &[0x11, 0x22, 0x33])
+        .write_fuses()
+        .read_fuses()
+        .write_fuses()
+        .power()
+        .select(2)
+        .read(0x00, 16)
+        .verify(3, password(3))
+        .verify(3, [0x11, 0x22, 0x33])
+        .read(0x00, 16)
+        .write(0x08, b"00005678")
+        .read(0x00, 16)
+        .right(11)
+        .read(0x08, 8)
+        .write(0x08, b"99999999")
+        .read(0x08, 8)
+        .read_configuration(0x20, 8)
+        .read_configuration(0x30, 8)
+}
+
+fn locked() -> Author {
+    Author::new(0)
+        .text(b"Eight wrong tries lock read password 5; the right one then does not help.\n")
+        .put_register(0, 0b1011_0111)
+        .put_zone(0, 0, b"guarded")
+        .right(13)
+        .read(0, 7)
+        .times(8, |a| a.wrong(13).read_counter(13))
+        .right(13)
+        .read_counter(13)
+        .read(0, 7)
+}
+
+fn authentication() -> Author {
+    Author::new(0)
+        .text(b"Zone 0 demands authentication: refused once, then granted, then lost by reset.\n")
+        .put_register(0, 0b1101_1111)
+        .put_zone(0, 0, b"guarded")
+        .read(0, 7)
+        .begin()
+        .read_configuration(0x20, 1)
+        .verdict(0, b"badcrypt")
+        .read(0, 7)
+        .begin()
+        .read_configuration(0x20, 1)
+        .verdict(1, b"newcrypt")
+        .read(0, 7)
+        .read_configuration(0x20, 1)
+        .read_configuration(0x28, 8)
+        .reset()
+        .read(0, 7)
+}
+
+fn refused() -> Author {
+    Author::new(7)
+        .text(b"The second record writes 17 bytes, so the whole session is refused with 7.\n")
+        .write(0x00, &[0x11; 16])
+        .write(0x00, &[0x22; 17])
+        .read(0x00, 16)
+}
+
+fn wrap() -> Author {
+    Author::new(0)
+        .text(b"A write wraps in its page, a read rolls over in its zone, PGO only clears bits.\n")
+        .put_zone(0, 0x10, &[0; 16])
+        .put_register(2, 0xFE)
+        .put_zone(2, 0x20, &[0xF0])
+        .write(0x1E, &[1, 2, 3, 4])
+        .read(0x10, 16)
+        .write(0xFE, b"end")
+        .read(0xF0, 16)
+        .write(0x00, b"begin")
+        .read(0xFE, 8)
+        .select(1)
+        .read(0x00, 4)
+        .select(2)
+        .write(0x20, &[0x3C])
+        .read(0x20, 1)
+}
+
+pub fn all() -> Vec<Example> {
+    let paper = printed().text(b"The example printed in the paper.\n");
+    [
+        ("paper", paper),
+        ("personalised", personalised()),
+        ("locked", locked()),
+        ("authentication", authentication()),
+        ("refused", refused()),
+        ("wrap", wrap()),
+    ]
+    .map(|(name, author)| Example { name, session: author.session() })
+    .into()
+}

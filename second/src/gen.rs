@@ -1,0 +1,351 @@
+//! The seeded generator: cards, states, records, sessions and logs, sound ones and damaged ones.
+//!
+//! Records are chosen with the current card and state in view, so that right passwords are right
+//! and locked doors are opened often enough to reach deep states.
+
+use crate::author::{counter, trailer};
+use crate::card::{self, AAC, CARD, CONFIGURATION, FUSES, REGISTERS};
+use crate::command::command;
+use crate::session::{LONGEST, SHORTEST};
+
+/// Splitmix64.
+pub struct Rng(u64);
+
+impl Rng {
+    pub fn new(seed: u64) -> Rng {
+        Rng(seed.wrapping_mul(0xD1B5_4A32_D192_ED03))
+    }
+
+    pub fn draw(&mut self) -> u64 {
+        self.0 = self.0.wrapping_add(0x9E37_79B9_7F4A_7C15);
+        let mut z = self.0;
+        z = (z ^ (z >> 30)).wrapping_mul(0xBF58_476D_1CE4_E5B9);
+        z = (z ^ (z >> 27)).wrapping_mul(0x94D0_49BB_1331_11EB);
+        z ^ (z >> 31)
+    }
+
+    pub fn below(&mut self, limit: usize) -> usize {
+        (self.draw() % limit as u64) as usize
+    }
+
+    pub fn byte(&mut self) -> u8 {
+        self.draw() as u8
+    }
+
+    /// True this many times in a hundred.
+    pub fn chance(&mut self, percent: usize) -> bool {
+        self.below(100) < percent
+    }
+
+    pub fn pick<T: Copy>(&mut self, items: &[T]) -> T {
+        items[self.below(items.len())]
+    }
+
+    pub fn bytes(&mut self, count: usize) -> Vec<u8> {
+        (0..count).map(|_| self.byte()).collect()
+    }
+}
+
+fn counter_value(rng: &mut Rng) -> u8 {
+    let any = rng.byte();
+    rng.pick(&[0xFF, 0xFF, 0xFF, 0xF0, 0x80, 0x01, 0x00, 0xA5, any, any, any])
+}
+
+/// A card with fuses of a stage; registers, counters and passwords of many patterns.
+pub fn card(rng: &mut Rng) -> Vec<u8> {
+    let mut card = rng.bytes(CARD);
+    card[FUSES] = rng.pick(&[7, 6, 4, 0, 0]);
+    let shared_set = rng.chance(30).then(|| rng.byte() & 0x1C);
+    for zone in 0..8 {
+        let any = rng.byte();
+        let one_switch = !(1 << rng.pick(&[0, 1, 5, 6, 7]));
+        let register = rng.pick(&[any, any, any | 0x20, any | 0x22, 0xFF, one_switch]);
+        card[REGISTERS + zone] = match shared_set {
+            Some(set) => register & 0xE3 | set,
+            None => register,
+        };
+    }
+    let alike = rng.chance(20).then(|| rng.bytes(3));
+    let many_locked = rng.chance(10);
+    for selector in 0..16 {
+        let at = counter(selector);
+        card[at] = if many_locked { rng.pick(&[0, 0x40]) } else { counter_value(rng) };
+        if let Some(password) = &alike {
+            card[at + 1..at + 4].copy_from_slice(password);
+        }
+    }
+    if rng.chance(70) {
+        card[counter(7)] |= 0x08;
+    }
+    card[AAC] = counter_value(rng);
+    card
+}
+
+/// A state that stands for something.
+pub fn state(rng: &mut Rng) -> [u8; 4] {
+    let zone = rng.byte() & 7;
+    let authentication = rng.pick(&[0, 1, 2, 2]);
+    if rng.chance(20) {
+        [zone, 0, 0, authentication]
+    } else {
+        let any = rng.byte() & 15;
+        [zone, 1, rng.pick(&[7, any, any]), authentication]
+    }
+}
+
+/// A state that stands for nothing.
+pub fn damaged_state(rng: &mut Rng) -> Vec<u8> {
+    let mut state = state(rng).to_vec();
+    match rng.below(6) {
+        0 => state[0] = rng.pick(&[8, 16, 128, 255]),
+        1 => state[1] = rng.pick(&[2, 3, 128, 255]),
+        2 => (state[1], state[2]) = (0, rng.pick(&[1, 7, 15, 16, 255])),
+        3 => (state[1], state[2]) = (1, rng.pick(&[16, 23, 32, 128, 255])),
+        4 => state[3] = rng.pick(&[3, 4, 128, 255]),
+        _ => state.resize(rng.pick(&[0, 1, 3, 5, 8]), 0),
+    }
+    state
+}
+
+fn verify(rng: &mut Rng, card: &[u8], selector: u8) -> Vec<u8> {
+    let right = |selector| {
+        let at = counter(selector);
+        [card[at + 1], card[at + 2], card[at + 3]]
+    };
+    let mut password = right(selector);
+    match rng.below(10) {
+        0 | 1 => password[rng.below(3)] ^= 1 << rng.below(8),
+        2 => password = right(selector ^ 8),
+        3 => password = right(selector ^ 1 << rng.below(3)),
+        _ => {}
+    }
+    [&[10, selector][..], &password].concat()
+}
+
+fn address(rng: &mut Rng) -> u8 {
+    let any = rng.byte();
+    let page_end = (any | 0x0F) - rng.pick(&[0, 1, 2]);
+    rng.pick(&[any, any, page_end, any & 0xF0, 0, 0xFE, 0xFF])
+}
+
+fn configuration_address(rng: &mut Rng, state: &[u8]) -> u8 {
+    let any = rng.byte() & 0x7F;
+    let counter = (counter(any & 15) - CONFIGURATION) as u8;
+    let boundary = rng.pick(&[0x0B, 0x0C, 0x0F, 0x10, 0x20, 0x2F, 0x30, 0x37, 0x38, 0x3F, 0x40]);
+    rng.pick(&[any, any, counter, counter + 1, 0x10 + state[0], boundary, 0x7F])
+}
+
+/// What a host would do next to get at the selected zone.
+fn helpful(rng: &mut Rng, card: &[u8], state: &[u8]) -> Vec<u8> {
+    let register = card[REGISTERS + usize::from(state[0])];
+    let set = register >> 2 & 7;
+    if register & 0x20 == 0 && state[3] == 0 {
+        return vec![11];
+    }
+    if register & 0x20 == 0 && state[3] == 1 {
+        return [&[12, u8::from(rng.chance(85))][..], &rng.bytes(8)].concat();
+    }
+    if state[1] == 1 && state[2] == 7 && rng.chance(25) {
+        return vec![9];
+    }
+    if state[1] == 0 || state[2] & 7 != set {
+        let selector = rng.pick(&[set, set, set + 8, 7]);
+        return verify(rng, card, selector);
+    }
+    let kind = rng.pick(&[4, 5]);
+    of_kind(rng, card, state, kind)
+}
+
+fn of_kind(rng: &mut Rng, card: &[u8], state: &[u8], kind: u8) -> Vec<u8> {
+    match kind {
+        3 => vec![3, rng.byte() & 7],
+        4 => {
+            let short = 1 + rng.byte() % 20;
+            let any = rng.byte();
+            vec![4, address(rng), rng.pick(&[short, short, short, any, 0, 255])]
+        }
+        5 => {
+            let data = write_data(rng);
+            [&[5, address(rng), data.len() as u8], &data[..]].concat()
+        }
+        6 => {
+            let from = configuration_address(rng, state);
+            let most = 128 - usize::from(from);
+            let count = match rng.below(3) {
+                0 => most,
+                1 => 1 + rng.below(most.min(8)),
+                _ => 1 + rng.below(most),
+            };
+            vec![6, from, count as u8]
+        }
+        7 => {
+            let data = write_data(rng);
+            let from = configuration_address(rng, state);
+            [&[7, from, data.len() as u8], &data[..]].concat()
+        }
+        10 => {
+            let any = rng.byte() & 15;
+            let set = card[REGISTERS + usize::from(state[0])] >> 2 & 7;
+            let selector = rng.pick(&[any, set, set + 8, 7]);
+            verify(rng, card, selector)
+        }
+        12 => [&[12, rng.byte() & 1][..], &rng.bytes(8)].concat(),
+        kind => vec![kind],
+    }
+}
+
+fn write_data(rng: &mut Rng) -> Vec<u8> {
+    let any = 1 + rng.below(16);
+    let count = rng.pick(&[any, any, 1, 2, 4, 16]);
+    rng.bytes(count)
+}
+
+/// A sound record, chosen for this card and state.
+pub fn record(rng: &mut Rng, card: &[u8], state: &[u8]) -> Vec<u8> {
+    if rng.chance(35) {
+        return helpful(rng, card, state);
+    }
+    let kind = rng.pick(&[
+        1, 2, 3, 3, 3, 4, 4, 4, 4, 4, 5, 5, 5, 5, 5, 6, 6, 6, 7, 7, 7, 7, 8, 9, 9, 10, 10, 10, 10,
+        11, 12, 12,
+    ]);
+    of_kind(rng, card, state, kind)
+}
+
+/// A record with something wrong: its kind, a field, its length.
+pub fn damaged_record(rng: &mut Rng, record: &[u8]) -> Vec<u8> {
+    let mut record = record.to_vec();
+    match rng.below(6) {
+        0 => record[0] = rng.pick(&[0, 13, 14, 0x80, 0xFF]),
+        1 => record.truncate(rng.below(record.len())),
+        2 => {
+            let more = 1 + rng.below(3);
+            record.extend(rng.bytes(more));
+        }
+        3 => {
+            let at = rng.below(record.len());
+            record[at] = rng.byte();
+        }
+        4 => {
+            #[rustfmt::skip]
+            let bad: [&[u8]; 12] = [
+                &[3, 8], &[5, 0, 0], &[5, 9, 17, 1], &[6, 0x80, 1], &[6, 0x7F, 2], &[6, 0, 0],
+                &[6, 1, 0xFF], &[7, 0x80, 1, 1], &[7, 0, 0], &[7, 0, 17], &[10, 16], &[12, 2],
+            ];
+            record = rng.pick(&bad).to_vec();
+        }
+        _ => {
+            #[rustfmt::skip]
+            let cut: [&[u8]; 8] = [
+                &[3], &[4, 1], &[6, 0xFF], &[7, 0xFF], &[5, 0, 2, 1], &[10, 1, 1, 1], &[12, 1], &[],
+            ];
+            record = rng.pick(&cut).to_vec();
+        }
+    }
+    record
+}
+
+/// A sound session with about this many records.
+pub fn session(rng: &mut Rng, records: usize) -> Vec<u8> {
+    let mut session = card(rng);
+    let mut card = session.clone();
+    let text = rng.pick(&[0, 0, 1, 7, 40]);
+    session.extend(rng.bytes(text));
+    let start = session.len();
+    let mut state = [0; 4];
+    let mut count = 0;
+    while count < records {
+        let record = record(rng, &card, &state);
+        if session.len() + record.len() + 8 > LONGEST {
+            break;
+        }
+        let done = command(&mut card, &mut state, &record, &mut [0; card::ZONE]);
+        debug_assert!(done.is_ok());
+        session.extend_from_slice(&record);
+        count += 1;
+    }
+    session.extend_from_slice(&trailer(start, count as u16));
+    session
+}
+
+fn set_trailer(session: &mut [u8], start: u32, count: u16) {
+    let at = session.len() - 8;
+    session[at..at + 4].copy_from_slice(&start.to_le_bytes());
+    session[at + 4..at + 6].copy_from_slice(&count.to_le_bytes());
+}
+
+/// A session with one or more things wrong; now and then it is sound all the same.
+pub fn damaged_session(rng: &mut Rng, session: &[u8]) -> Vec<u8> {
+    let mut bytes = session.to_vec();
+    damage(rng, &mut bytes);
+    while bytes.len() >= SHORTEST && rng.chance(25) {
+        damage(rng, &mut bytes);
+    }
+    bytes
+}
+
+fn damage(rng: &mut Rng, bytes: &mut Vec<u8>) {
+    let end = bytes.len() - 8;
+    let start = u32::from_le_bytes([bytes[end], bytes[end + 1], bytes[end + 2], bytes[end + 3]]);
+    let count = u16::from_le_bytes([bytes[end + 4], bytes[end + 5]]);
+    let records = end.saturating_sub(start as usize);
+    match rng.below(12) {
+        0 => bytes.truncate(rng.below(bytes.len())),
+        1 => bytes.resize(rng.pick(&[0, 7, 8, SHORTEST - 1, LONGEST + 1, 70_000]), 0),
+        2 => bytes[end + 6 + rng.below(2)] ^= 1 << rng.below(8),
+        3 => {
+            let far = end as u32 + 1;
+            let start = rng.pick(&[0, 2176, far, far + 7, start ^ 0x1_0000, start | 1 << 31]);
+            set_trailer(bytes, start, count);
+        }
+        4 => {
+            let many = rng.pick(&[4097, 4098, 0x8000, 0xFFFF]);
+            set_trailer(bytes, start, many);
+        }
+        5 => bytes[FUSES] = rng.pick(&[1, 2, 3, 5, 8, 15, 0x87, 0x80, 255]),
+        6 => set_trailer(bytes, start, count.wrapping_add(1)),
+        7 => set_trailer(bytes, start, count.saturating_sub(1)),
+        8 => {
+            let moved = start.wrapping_add(rng.below(records + 1) as u32);
+            set_trailer(bytes, moved, count);
+        }
+        9 | 10 if records > 0 => {
+            let at = start as usize + rng.below(records);
+            bytes[at] = rng.byte();
+        }
+        _ => {
+            let broken = damaged_record(rng, &[4, 0, 1]);
+            bytes.splice(end..end, broken);
+            set_trailer(bytes, start, count.wrapping_add(1));
+        }
+    }
+}
+
+/// A log with something wrong; now and then it is sound all the same.
+pub fn damaged_log(rng: &mut Rng, log: &[u8]) -> Vec<u8> {
+    let mut bytes = log.to_vec();
+    let card_at = bytes.len() - SHORTEST;
+    match rng.below(7) {
+        0 => bytes.truncate(rng.below(bytes.len())),
+        1 => bytes.extend(rng.bytes(1)),
+        2 => bytes[card_at + FUSES] = rng.byte(),
+        3 => {
+            let at = bytes.len() - 1 - rng.below(8);
+            bytes[at] ^= 1 << rng.below(8);
+        }
+        4 => {
+            // An entry more or fewer than the count says.
+            let at = bytes.len() - 4;
+            bytes[at] = bytes[at].wrapping_add(rng.pick(&[1, 255]));
+        }
+        5 if card_at > 0 => {
+            bytes.remove(rng.below(card_at));
+        }
+        _ if card_at > 0 => {
+            let at = rng.below(card_at);
+            bytes[at] = rng.byte();
+        }
+        _ => bytes.clear(),
+    }
+    bytes
+}

@@ -1,0 +1,22 @@
+//! A second implementation of the simulated AT88SC1608 and its session log.
+//!
+//! It was written from the paper alone and serves as the measure for the first
+//! one: in the differential tests and in the benchmark.
+
+pub mod access;
+pub mod author;
+pub mod card;
+pub mod command;
+pub mod encoded;
+pub mod examples;
+pub mod gen;
+pub mod listing;
+pub mod log;
+pub mod record;
+pub mod refusal;
+pub mod samples;
+pub mod session;
+pub mod volatile;
+
+#[cfg(test)]
+mod tests;

@@ -1,0 +1,387 @@
+//! What the paper says in so many words: cases A–L, the edges, the printed example, each refusal
+//! by its number, and the mistakes that are easily made.
+
+use crate::author::{counter, fresh_card, password, trailer, Author};
+use crate::card::{AAC, CARD, CONFIGURATION, FUSES, REGISTERS};
+use crate::command::command;
+use crate::listing::listing;
+use crate::record::Reader;
+use crate::refusal::Refusal;
+use crate::session::{check, run, LONGEST};
+use crate::{encoded, examples, gen, log, samples};
+
+const NONE: [u8; 4] = [0, 0, 0, 0];
+
+/// A card on the table: its bytes and its volatile state.
+struct Table {
+    card: Vec<u8>,
+    state: [u8; 4],
+}
+
+impl Table {
+    fn new(fuses: u8) -> Table {
+        let card = fresh_card(fuses);
+        Table { card, state: NONE }
+    }
+
+    fn register(mut self, register: u8) -> Table {
+        self.card[REGISTERS] = register;
+        self
+    }
+
+    fn active(mut self, selector: u8) -> Table {
+        self.state[1..3].copy_from_slice(&[1, selector]);
+        self
+    }
+
+    fn granted(mut self) -> Table {
+        self.state[3] = 2;
+        self
+    }
+
+    fn set(mut self, place: usize, byte: u8) -> Table {
+        self.card[place] = byte;
+        self
+    }
+
+    fn run(&mut self, record: &[u8]) -> Vec<u8> {
+        let mut space = [0xEE; 256];
+        let n = command(&mut self.card, &mut self.state, record, &mut space).unwrap();
+        assert!(space[n..].iter().all(|&b| b == 0xEE));
+        space[..n].to_vec()
+    }
+
+    fn verify(&mut self, selector: u8, password: [u8; 3]) {
+        self.run(&[&[10, selector], &password[..]].concat());
+    }
+
+    /// Whether a write to the selected zone is stored.
+    fn stores(mut self) -> bool {
+        self.card[0] = 0;
+        self.run(&[5, 0, 1, 0xAB]);
+        self.card[0] == 0xAB
+    }
+
+    /// Whether a read of the selected zone shows its bytes.
+    fn shows(mut self) -> bool {
+        self.card[0] = 0xAB;
+        self.run(&[4, 0, 1]) == [0xAB]
+    }
+}
+
+/// A refused single command leaves everything as it was.
+fn refused(card: &[u8], state: &[u8], record: &[u8], space: usize) -> u8 {
+    let (mut c, mut s, mut r) = (card.to_vec(), state.to_vec(), vec![0xEE; space]);
+    let refusal = command(&mut c, &mut s, record, &mut r).unwrap_err();
+    assert_eq!((&c[..], &s[..]), (card, state));
+    assert!(r.iter().all(|&b| b == 0xEE));
+    refusal.number()
+}
+
+fn decoded(record: &[u8]) -> u8 {
+    refused(&fresh_card(7), &NONE, record, 300)
+}
+
+fn session_refused(session: &[u8]) -> u8 {
+    let mut log = vec![0xEE; 70_000];
+    let refusal = run(session, &mut log).unwrap_err();
+    assert!(log.iter().all(|&b| b == 0xEE));
+    refusal.number()
+}
+
+fn raw(fuses: u8, records: &[u8], start: usize, count: u16) -> Vec<u8> {
+    [&fresh_card(fuses)[..], records, &trailer(start, count)].concat()
+}
+
+#[test]
+fn case_a_wrong_password() {
+    for (before, after) in [(0xFF, 0xFE), (0xF0, 0xE0), (0x80, 0x00), (0xA5, 0xA4)] {
+        let mut t = Table::new(0).active(2).set(counter(11), before);
+        t.verify(11, [1, 2, 3]);
+        assert_eq!(t.card[counter(11)], after);
+        assert_eq!(t.state, NONE);
+    }
+}
+
+#[test]
+fn case_b_locked_password() {
+    let mut t = Table::new(0).set(counter(4), 0);
+    t.verify(4, password(4));
+    assert_eq!((t.card[counter(4)], t.state), (0, NONE));
+    let mut t = Table::new(0).active(9).set(counter(4), 0);
+    t.verify(4, [0, 0, 0]);
+    assert_eq!((t.card[counter(4)], t.state), (0, [0, 1, 9, 0]));
+}
+
+#[test]
+fn cases_c_d_page_wrap_and_roll_over() {
+    let mut t = Table::new(7);
+    t.run(&[5, 0x1E, 4, 1, 2, 3, 4]);
+    assert_eq!((t.card[0x1E], t.card[0x1F]), (1, 2));
+    assert_eq!((t.card[0x10], t.card[0x11]), (3, 4));
+    assert_eq!(t.card[0x20], 0xFF);
+    t.card[0xFE..0x100].copy_from_slice(&[5, 6]);
+    t.card[0] = 7;
+    t.card[0x100] = 8;
+    assert_eq!(t.run(&[4, 0xFE, 3]), [5, 6, 7]);
+    assert_eq!(t.run(&[4, 0xFE, 0])[..4], [5, 6, 7, 0xFF]);
+    assert_eq!(t.run(&[4, 0xFE, 0]).len(), 256);
+}
+
+#[test]
+fn cases_e_f_g_l_zone_writes() {
+    let mut t = Table::new(0).register(0xFE).set(0, 0xF0);
+    t.run(&[5, 0, 1, 0x3C]);
+    assert_eq!(t.card[0], 0x30);
+    assert!(Table::new(7).register(0xFE).stores());
+    assert!(!Table::new(6).register(0xFF).stores());
+    assert!(!Table::new(4).register(0xFF).stores());
+    assert!(Table::new(0).register(0xFF).stores());
+    assert!(!Table::new(0).register(0xFD).stores());
+    assert!(!Table::new(6).register(0xFD).active(7).stores());
+    assert!(Table::new(7).register(0xFD).stores());
+}
+
+#[test]
+fn cases_h_i_access_register() {
+    assert!(!Table::new(0).register(0xBF).shows());
+    let mut t = Table::new(0).register(0xBF);
+    t.verify(15, password(15));
+    assert!(t.shows());
+    assert!(Table::new(0).register(0xBF).active(7).shows());
+    assert!(!Table::new(0).register(0xBF).active(14).shows());
+    assert!(!Table::new(0).register(0x7F).active(15).stores());
+    assert!(Table::new(0).register(0x7F).active(7).stores());
+    let i = || Table::new(0).register(0x57);
+    assert!(i().granted().active(5).stores());
+    assert!(!i().active(5).stores());
+    assert!(!i().granted().active(13).stores());
+    assert!(!i().granted().active(4).stores());
+    assert!(!i().shows() && i().granted().shows());
+    assert!(Table::new(6).register(0xF7).active(5).stores());
+    assert!(!Table::new(6).register(0xF7).active(7).stores());
+}
+
+#[test]
+fn cases_j_k_fuses_and_reset() {
+    let mut t = Table::new(7).active(7);
+    let fuses = [7, 6, 4, 0, 0].map(|f| {
+        assert_eq!(t.run(&[8]), [f]);
+        t.run(&[9]);
+        f
+    });
+    assert_eq!((fuses[4], t.card[FUSES], t.state), (0, 0, [0, 1, 7, 0]));
+    for active in [6, 15] {
+        let mut t = Table::new(7).active(active);
+        t.run(&[9]);
+        assert_eq!(t.card[FUSES], 7);
+    }
+    let mut t = Table::new(0).active(3).granted();
+    t.run(&[3, 5]);
+    assert_eq!(t.run(&[2]), [0x34, 0x55, 0xAA, 0x80]);
+    assert_eq!(t.state, [5, 0, 0, 0]);
+    t.run(&[1]);
+    assert_eq!(t.state, NONE);
+}
+
+#[test]
+fn authentication() {
+    let mut t = Table::new(6).set(AAC, 0xA5);
+    t.run(&[11]);
+    assert_eq!((t.card[AAC], t.state[3]), (0xA4, 1));
+    t.run(b"\x0C\x00rejected");
+    assert_eq!((t.card[AAC], t.state[3]), (0xA4, 0));
+    t.run(b"\x0C\x01too soon");
+    assert_eq!((t.card[AAC], t.state[3]), (0xA4, 0));
+    t.run(&[11]);
+    t.run(b"\x0C\x01accepted");
+    assert_eq!((t.card[AAC], t.state[3]), (0xFF, 2));
+    t.run(b"\x0C\x00too late");
+    assert_eq!(t.state[3], 2);
+    let cryptogram = CONFIGURATION + 0x28;
+    assert_eq!(&t.card[cryptogram..cryptogram + 8], b"accepted");
+    t.card[AAC] = 0;
+    t.run(&[11]);
+    assert_eq!((t.card[AAC], t.state[3]), (0, 2));
+    t.card[AAC] = 0x80;
+    t.run(&[11]);
+    assert_eq!((t.card[AAC], t.state[3]), (0, 1));
+}
+
+#[test]
+fn configuration_rights_go_byte_by_byte() {
+    // At F = 0 write password 7 opens set 7 and nothing else; reserved bytes stay.
+    let mut t = Table::new(0).active(7);
+    let before = t.card.clone();
+    t.run(&[&[7, 0x7C, 16][..], &[0x11; 16]].concat());
+    assert_eq!(t.card[..CONFIGURATION + 0x78], before[..CONFIGURATION + 0x78]);
+    assert_eq!(t.card[CONFIGURATION + 0x78..FUSES], [0x11; 8]);
+    // At F = 4 the manufacturer code is closed, the test bytes are free, the rest wants SC.
+    let mut t = Table::new(4);
+    t.run(&[&[7, 0x38, 16][..], &[0x22; 16]].concat());
+    assert_eq!(&t.card[CONFIGURATION + 0x30..CONFIGURATION + 0x38], b"secretly");
+    assert_eq!(t.card[CONFIGURATION + 0x38..CONFIGURATION + 0x40], [0x22; 8]);
+    assert_eq!(t.run(&[6, 0x30, 8]), [0; 8]);
+    assert_eq!(t.run(&[6, 0x40, 8]), [0xFF, 0, 0, 0, 0xFF, 0, 0, 0]);
+    let mut t = Table::new(4).active(7);
+    assert_eq!(t.run(&[6, 0x30, 8]), b"secretly");
+    t.run(&[7, 0x0C, 1, 9]);
+    assert_eq!(t.card[CONFIGURATION + 0x0C], 0xFF);
+    // Rewriting the active password leaves it active.
+    t.run(&[7, 0x78, 4, 0, 1, 2, 3]);
+    assert_eq!((t.card[counter(7)], t.state), (0, [0, 1, 7, 0]));
+}
+
+#[test]
+fn edges() {
+    let empty = raw(7, &[], CARD, 0);
+    assert_eq!(run(&empty, &mut [0; 2185]), Ok(2185));
+    assert_eq!(session_refused(&empty[1..]), 1);
+    assert_eq!(Table::new(7).run(&[&[5, 0, 16][..], &[0; 16]].concat()), []);
+    assert_eq!(decoded(&[&[5, 0, 17][..], &[0; 17]].concat()), 7);
+    assert_eq!(Table::new(7).run(&[6, 0x7F, 1]).len(), 1);
+    assert_eq!(decoded(&[6, 0x7F, 2]), 7);
+}
+
+#[test]
+fn records_refused() {
+    #[rustfmt::skip]
+    let cases = [
+        (&[][..], 8), (&[0], 6), (&[13], 6), (&[255, 1], 6),
+        (&[3], 8), (&[3, 8], 7), (&[3, 255], 7), (&[4, 1], 8),
+        (&[5], 8), (&[5, 0], 8), (&[5, 0, 0], 7), (&[5, 0, 17], 7), (&[5, 0, 2, 1], 8),
+        (&[6, 0xFF], 8), (&[6, 0x80, 1], 7), (&[6, 0, 0], 7), (&[6, 1, 0xFF], 7), (&[6, 0, 129], 7),
+        (&[7, 0xFF], 8), (&[7, 0x80, 1], 7), (&[7, 0, 0], 7), (&[7, 0, 17], 7), (&[7, 0, 1], 8),
+        (&[10], 8), (&[10, 16], 7), (&[10, 0, 1, 2], 8), (&[12], 8), (&[12, 2], 7),
+        (&[12, 1, 1, 2, 3, 4, 5, 6, 7], 8), (&[1, 1], 9), (&[4, 0, 1, 0], 9), (&[8, 0], 9),
+    ];
+    for (record, number) in cases {
+        assert_eq!(decoded(record), number, "{record:02X?}");
+    }
+}
+
+#[test]
+fn caller_refused() {
+    let card = fresh_card(7);
+    let odd = fresh_card(5);
+    let bad = [8, 0, 0, 0];
+    assert_eq!(refused(&odd[1..], &bad, &[0], 0), 11);
+    assert_eq!(refused(&[&card[..], &[7]].concat(), &NONE, &[8], 1), 11);
+    assert_eq!(refused(&odd, &bad, &[0], 0), 5);
+    assert_eq!(refused(&card, &bad, &[0], 0), 12);
+    #[rustfmt::skip]
+    let states: [&[u8]; 8] = [
+        &[0, 2, 0, 0], &[0, 0, 1, 0], &[0, 1, 16, 0], &[0, 0, 0, 3], &[], &[0; 3], &[0; 5],
+        &[255, 0, 0, 0],
+    ];
+    for state in states {
+        assert_eq!(refused(&card, state, &[8], 1), 12, "{state:?}");
+    }
+    assert_eq!(refused(&card, &NONE, &[6, 0, 0], 0), 7);
+    assert_eq!(refused(&card, &NONE, &[8, 8], 0), 9);
+    assert_eq!(refused(&card, &NONE, &[8], 0), 10);
+    assert_eq!(refused(&card, &[1, 1, 3, 2], &[2], 3), 10);
+    assert_eq!(refused(&card, &NONE, &[4, 9, 0], 255), 10);
+}
+
+#[test]
+fn sessions_refused_in_order() {
+    assert_eq!(session_refused(&[]), 1);
+    let mut all_wrong = raw(5, &[0, 0], 0, 4097);
+    let end = all_wrong.len() - 8;
+    all_wrong[end + 6] = 0;
+    assert_eq!(session_refused(&[&all_wrong[..], &[0; LONGEST]].concat()), 1);
+    assert_eq!(session_refused(&all_wrong), 2);
+    all_wrong[end + 6] = 0x53;
+    assert_eq!(session_refused(&all_wrong), 3);
+    assert_eq!(session_refused(&raw(5, &[0, 0], CARD + 3, 4097)), 3);
+    assert_eq!(session_refused(&raw(5, &[0, 0], CARD + 0x10000, 4097)), 3);
+    assert_eq!(session_refused(&raw(5, &[0, 0], CARD, 4097)), 4);
+    assert_eq!(session_refused(&raw(5, &[0, 0], CARD, 1)), 5);
+    assert_eq!(session_refused(&raw(4, &[0, 0], CARD, 1)), 6);
+    assert_eq!(session_refused(&raw(4, &[3, 8, 0], CARD, 2)), 7);
+    // The trailer's bytes are no record's.
+    assert_eq!(session_refused(&raw(4, &[8, 3], CARD, 2)), 8);
+    assert_eq!(session_refused(&raw(4, &[8], CARD, 2)), 8);
+    assert_eq!(session_refused(&raw(4, &[8, 0], CARD, 1)), 9);
+    assert_eq!(session_refused(&raw(4, &[8], CARD, 0)), 9);
+    let two = raw(4, &[8, 2], CARD, 2);
+    assert_eq!(check(&two).map(|c| c.log_length), Ok(2196));
+    assert_eq!(run(&two, &mut [0; 2195]), Err(Refusal::Space));
+    assert_eq!(run(&two, &mut [0; 2196]), Ok(2196));
+    let most = Author::new(7).times(4096, |a| a.read(0, 0)).session();
+    assert_eq!(run(&most, &mut vec![0; 1_100_000]), Ok(4096 * 259 + 2185));
+}
+
+#[test]
+fn reader_stops_at_the_trailer() {
+    assert_eq!(Reader::new(&[8; 7], 0).next_record(), Err(Refusal::CutShort));
+    let mut reader = Reader::new(&[8; 9], 0);
+    assert!(reader.next_record().is_ok());
+    assert_eq!((reader.next_record(), reader.at()), (Err(Refusal::CutShort), 1));
+    let far = Reader::new(&[8; 9], usize::MAX).next_record();
+    assert_eq!(far, Err(Refusal::CutShort));
+}
+
+#[test]
+fn log_answers() {
+    let session = raw(6, &[8, 3, 1, 2], CARD, 3);
+    let mut space = [0; 3000];
+    let n = run(&session, &mut space).unwrap();
+    let log = &space[..n];
+    assert_eq!(log::answer(log, 0), Ok(&[6][..]));
+    assert_eq!(log::answer(log, 1), Ok(&[][..]));
+    assert_eq!(log::answer(log, 2), Ok(&[0x34, 0x55, 0xAA, 0x80][..]));
+    for number in [3, 1 << 32, u64::MAX] {
+        assert_eq!(log::answer(log, number), Err(Refusal::NoSuchAnswer));
+    }
+    assert_eq!(encoded::at88sc1608_answer(log, 2), 4 << 8 | 10 << 40);
+    assert_eq!(encoded::at88sc1608_answer(log, 1), 7 << 40);
+    assert_eq!(encoded::at88sc1608_answer(log, 3), 14);
+    assert_eq!(log::answer(&log[..n - 1], 9), Err(Refusal::Log));
+    // A fault in the last entry counts for answer 0 too.
+    let mut damaged = log.to_vec();
+    damaged[7] = 8;
+    assert_eq!(log::answer(&damaged, 0), Err(Refusal::Log));
+}
+
+#[test]
+fn session_and_single_commands_agree() {
+    let mut rng = gen::Rng::new(1);
+    for _ in 0..200 {
+        let session = gen::session(&mut rng, 50);
+        let mut log = vec![0; 30_000];
+        let n = run(&session, &mut log).unwrap();
+        let (mut card, mut state) = (session[..CARD].to_vec(), NONE);
+        let mut reader = Reader::new(&session, check(&session).unwrap().start);
+        for k in 0..check(&session).unwrap().count {
+            let from = reader.at();
+            reader.next_record().unwrap();
+            let mut space = [0; 256];
+            let record = &session[from..reader.at()];
+            let length = command(&mut card, &mut state, record, &mut space).unwrap();
+            assert_eq!(log::answer(&log[..n], k.into()), Ok(&space[..length]));
+        }
+        assert_eq!(card, log[n - 8 - CARD..n - 8]);
+    }
+}
+
+#[test]
+fn printed_example_and_listings() {
+    let printed = examples::printed().session();
+    assert_eq!(listing(&printed), "0 08 06\n1 06 A5 5A\nfuses 06\n");
+    assert_eq!(listing(&[]), "refused 1\n");
+    assert_eq!(listing(&vec![0; LONGEST + 1]), "refused 1\n");
+    let power = Author::new(0).power().session();
+    assert_eq!(listing(&power), "0 01\nfuses 00\n");
+}
+
+#[test]
+fn samples_meet_every_session_refusal() {
+    let listings: Vec<String> = samples::all().iter().map(|s| listing(s)).collect();
+    for number in 1..=10 {
+        assert!(listings.contains(&format!("refused {number}\n")), "{number}");
+    }
+    let total: usize = samples::all().iter().map(Vec::len).sum();
+    assert!(total < 300_000);
+}

@@ -1,0 +1,109 @@
+//! What is lost with power, and the numbers it is made of.
+
+/// A user zone, 0–7.
+#[derive(Clone, Copy, Debug, PartialEq, Eq)]
+pub struct Zone(u8);
+
+impl Zone {
+    pub const FIRST: Zone = Zone(0);
+
+    pub fn new(number: u8) -> Option<Zone> {
+        (number < 8).then_some(Zone(number))
+    }
+
+    pub fn number(self) -> usize {
+        usize::from(self.0 & 7)
+    }
+}
+
+/// A password set, 0–7.
+#[derive(Clone, Copy, Debug, PartialEq, Eq)]
+pub struct PwSet(u8);
+
+impl PwSet {
+    /// The set named by the low three bits.
+    pub const fn low_bits(bits: u8) -> PwSet {
+        PwSet(bits & 7)
+    }
+
+    pub fn number(self) -> usize {
+        usize::from(self.0 & 7)
+    }
+}
+
+/// One of the sixteen passwords.
+#[derive(Clone, Copy, Debug, PartialEq, Eq)]
+pub enum Password {
+    Write(PwSet),
+    Read(PwSet),
+}
+
+impl Password {
+    /// Write password 7, the security code.
+    pub const SECURITY_CODE: Password = Password::Write(PwSet(7));
+
+    pub fn from_selector(selector: u8) -> Option<Password> {
+        match selector {
+            0..=7 => Some(Password::Write(PwSet(selector))),
+            8..=15 => Some(Password::Read(PwSet(selector - 8))),
+            _ => None,
+        }
+    }
+
+    pub fn selector(self) -> u8 {
+        match self {
+            Password::Write(set) => set.0,
+            Password::Read(set) => set.0 + 8,
+        }
+    }
+}
+
+#[derive(Clone, Copy, Debug, PartialEq, Eq)]
+pub enum Authentication {
+    Idle,
+    Begun,
+    Granted,
+}
+
+/// The volatile state of a card.
+#[derive(Clone, Copy, Debug, PartialEq, Eq)]
+pub struct Volatile {
+    pub zone: Zone,
+    pub active: Option<Password>,
+    pub authentication: Authentication,
+}
+
+impl Volatile {
+    pub const POWER_UP: Volatile =
+        Volatile { zone: Zone::FIRST, active: None, authentication: Authentication::Idle };
+
+    /// Four bytes: zone, whether a password is active, its selector, authentication.
+    pub fn from_bytes(bytes: &[u8]) -> Option<Volatile> {
+        let &[zone, some, selector, authentication] = bytes else {
+            return None;
+        };
+        Some(Volatile {
+            zone: Zone::new(zone)?,
+            active: match (some, selector) {
+                (0, 0) => None,
+                (1, _) => Some(Password::from_selector(selector)?),
+                _ => return None,
+            },
+            authentication: match authentication {
+                0 => Authentication::Idle,
+                1 => Authentication::Begun,
+                2 => Authentication::Granted,
+                _ => return None,
+            },
+        })
+    }
+
+    pub fn to_bytes(self) -> [u8; 4] {
+        [
+            self.zone.0,
+            u8::from(self.active.is_some()),
+            self.active.map_or(0, Password::selector),
+            self.authentication as u8,
+        ]
+    }
+}

@@ -1,0 +1,119 @@
+//! One call to the proved library and to the second implementation, compared byte for byte.
+//!
+//! Whatever is lent lies between guard bytes. A difference ends the test and prints the input.
+
+use second::encoded;
+
+use crate::proved;
+
+const GUARD: usize = 24;
+
+/// Bytes to be lent, with guard bytes on both sides.
+struct Lent(Vec<u8>);
+
+impl Lent {
+    fn new(bytes: &[u8]) -> Lent {
+        Lent([&[0x6D; GUARD], bytes, &[0x6D; GUARD]].concat())
+    }
+
+    fn bytes(&mut self) -> &mut [u8] {
+        let end = self.0.len() - GUARD;
+        &mut self.0[GUARD..end]
+    }
+}
+
+/// What response and log spaces hold before a call.
+fn filled(length: usize) -> Vec<u8> {
+    (0..length).map(|i| (i as u8).wrapping_mul(29) ^ 0x5B).collect()
+}
+
+fn hex(bytes: &[u8]) -> String {
+    bytes.iter().map(|byte| format!("{byte:02X}")).collect()
+}
+
+/// Fails with the call and its input if the results or any lent bytes differ.
+fn agree(
+    seed: &str,
+    call: &str,
+    input: &[(&str, &[u8])],
+    results: (u64, u64),
+    lent: &[(&Lent, &Lent)],
+) {
+    let place = lent.iter().position(|(proved, second)| proved.0 != second.0);
+    if results.0 == results.1 && place.is_none() {
+        return;
+    }
+    let mut report = format!("{call} differs, seed {seed}\n");
+    for (name, bytes) in input {
+        report += &format!("{name} ({} bytes): {}\n", bytes.len(), hex(bytes));
+    }
+    report += &format!("proved {:#X}, second {:#X}\n", results.0, results.1);
+    if let Some(which) = place {
+        let (proved, second) = lent[which];
+        let at = proved.0.iter().zip(&second.0).position(|(a, b)| a != b);
+        let at = at.expect("the lengths are the same");
+        report += &format!(
+            "lent bytes {which}, offset {}: proved {:02X}, second {:02X}\n",
+            at as isize - GUARD as isize,
+            proved.0[at],
+            second.0[at]
+        );
+    }
+    panic!("{report}");
+}
+
+/// Fails if a refused call has changed lent bytes or tells of a length.
+fn untouched(result: u64, before: &[&[u8]], after: &mut [&mut Lent]) {
+    if result & 0xFF != 0 {
+        assert_eq!(result >> 8, 0, "a refusal has length 0");
+        for (before, after) in before.iter().zip(after) {
+            assert!(*before == after.bytes(), "a refusal changes nothing");
+        }
+    }
+}
+
+/// A single command on both; `card` and `state` are then as the call leaves them.
+pub fn command(seed: &str, card: &mut [u8], state: &mut [u8], record: &[u8], space: usize) -> u64 {
+    let response = filled(space);
+    let lend = || [&*card, &*state, record, &response].map(Lent::new);
+    let (mut p, mut s) = (lend(), lend());
+    let [pc, ps, pr, pa] = &mut p;
+    let proved = proved::at88sc1608_command(pc.bytes(), ps.bytes(), pr.bytes(), pa.bytes());
+    let [sc, ss, sr, sa] = &mut s;
+    let second = encoded::at88sc1608_command(sc.bytes(), ss.bytes(), sr.bytes(), sa.bytes());
+    let input =
+        [("card", &*card), ("state", &*state), ("record", record), ("response space", &response)];
+    let pairs: Vec<_> = p.iter().zip(&s).collect();
+    agree(seed, "at88sc1608_command", &input, (proved, second), &pairs);
+    let [pc, ps, _, pa] = &mut p;
+    untouched(proved, &[card, state, &response], &mut [pc, ps, pa]);
+    card.copy_from_slice(p[0].bytes());
+    state.copy_from_slice(p[1].bytes());
+    proved
+}
+
+/// A session on both; answers the result and the log space.
+pub fn run(seed: &str, session: &[u8], space: usize) -> (u64, Vec<u8>) {
+    let log = filled(space);
+    let (mut ps, mut ss) = (Lent::new(session), Lent::new(session));
+    let (mut pl, mut sl) = (Lent::new(&log), Lent::new(&log));
+    let proved = proved::at88sc1608_run(ps.bytes(), pl.bytes());
+    let second = encoded::at88sc1608_run(ss.bytes(), sl.bytes());
+    let call = format!("at88sc1608_run with log space {space}");
+    let lent = [(&ps, &ss), (&pl, &sl)];
+    agree(seed, &call, &[("session", session)], (proved, second), &lent);
+    untouched(proved, &[&log], &mut [&mut pl]);
+    let written = (proved >> 8) as usize;
+    assert!(pl.bytes()[written..] == log[written..], "slack is kept");
+    (proved, pl.bytes().to_vec())
+}
+
+/// A log read on both.
+pub fn answer(seed: &str, log: &[u8], number: u64) -> u64 {
+    let (mut pl, mut sl) = (Lent::new(log), Lent::new(log));
+    let proved = proved::at88sc1608_answer(pl.bytes(), number);
+    let second = encoded::at88sc1608_answer(sl.bytes(), number);
+    let call = format!("at88sc1608_answer with number {number}");
+    agree(seed, &call, &[("log", log)], (proved, second), &[(&pl, &sl)]);
+    proved
+}

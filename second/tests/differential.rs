@@ -1,0 +1,542 @@
+//! The proved library against the second implementation: every small case in turn, then lists of
+//! commands, sessions and log reads from the seeded generator.
+//!
+//! A failure prints its seed; `SEED=n` runs the generated tests with that seed alone.
+
+mod both;
+mod proved;
+
+use std::collections::BTreeMap;
+
+use second::author::{counter, fresh_card, Author};
+use second::card::{AAC, CARD, CONFIGURATION, FUSES, REGISTERS};
+use second::gen::{self, Rng};
+use second::samples;
+
+const STAGES: [u8; 4] = [7, 6, 4, 0];
+const FIXED: &str = "none: a fixed case";
+
+/// How often something was met.
+#[derive(Default)]
+struct Met(BTreeMap<String, u64>);
+
+impl Met {
+    fn note(&mut self, what: &str) {
+        if let Some(times) = self.0.get_mut(what) {
+            *times += 1;
+        } else {
+            self.0.insert(what.to_string(), 1);
+        }
+    }
+
+    fn note_if(&mut self, what: &str, met: bool) {
+        if met {
+            self.note(what);
+        }
+    }
+
+    fn require(&self, what: &str, at_least: u64) {
+        let times = self.0.get(what).copied().unwrap_or(0);
+        println!("{what}: {times}");
+        if std::env::var_os("SEED").is_none() {
+            assert!(times >= at_least, "{what}: only {times} of {at_least}");
+        }
+    }
+}
+
+fn seeds(count: u64) -> std::ops::Range<u64> {
+    match std::env::var("SEED") {
+        Ok(seed) => {
+            let seed = seed.parse().expect("SEED is a decimal number");
+            seed..seed + 1
+        }
+        Err(_) => 0..count,
+    }
+}
+
+/// Every volatile state but for the zone.
+fn states(zone: u8) -> Vec<[u8; 4]> {
+    let actives = (0..17).map(|a| if a < 16 { [1, a] } else { [0, 0] });
+    actives
+        .flat_map(|[some, selector]| (0..3).map(move |auth| [zone, some, selector, auth]))
+        .collect()
+}
+
+/// A card whose bytes tell their places apart.
+fn marked_card(fuses: u8) -> Vec<u8> {
+    let mut card = fresh_card(fuses);
+    for (place, byte) in card[..CONFIGURATION].iter_mut().enumerate() {
+        *byte = (place % 251) as u8 ^ 0xA0;
+    }
+    card
+}
+
+#[test]
+fn every_register_in_every_state() {
+    for fuses in STAGES {
+        for register in 0..=255 {
+            let zone = register % 8;
+            let mut card = marked_card(fuses);
+            card[REGISTERS..REGISTERS + 8].fill(!register);
+            card[REGISTERS + usize::from(zone)] = register;
+            for mut state in states(zone) {
+                both::command(FIXED, &mut card, &mut state, &[4, 0xFE, 4], 4);
+                let mut written = card.clone();
+                both::command(FIXED, &mut written, &mut state, &[5, 0x3F, 2, 0x3C, 0x5A], 0);
+            }
+        }
+    }
+}
+
+#[test]
+fn every_configuration_byte_in_every_state() {
+    for fuses in STAGES {
+        for mut state in states(3) {
+            let card = marked_card(fuses);
+            both::command(FIXED, &mut card.clone(), &mut state, &[6, 0, 128], 128);
+            for address in 0..128 {
+                let (mut one, mut page) = (card.clone(), card.clone());
+                both::command(FIXED, &mut one, &mut state, &[7, address, 1, 0x96], 0);
+                let all: Vec<u8> = (0..16).map(|i| 0x80 + i).collect();
+                let record = [&[7, address, 16], &all[..]].concat();
+                both::command(FIXED, &mut page, &mut state, &record, 0);
+                both::command(FIXED, &mut page, &mut state, &[6, address, 1], 1);
+            }
+        }
+    }
+}
+
+#[test]
+fn every_counter_value() {
+    for value in 0..=255 {
+        for selector in 0..16 {
+            let at = counter(selector);
+            for wrong in 0..4 {
+                let mut card = marked_card(STAGES[usize::from(value & 3)]);
+                card[at] = value;
+                let mut record = [10, selector, card[at + 1], card[at + 2], card[at + 3]];
+                if wrong < 3 {
+                    record[2 + wrong] ^= 0x10;
+                }
+                let mut state = [5, 1, (selector + 3) % 16, value % 3];
+                both::command(FIXED, &mut card, &mut state, &record, 0);
+            }
+        }
+        for state in states(6) {
+            for record in [&b"\x0B"[..], b"\x0C\x00ABCDEFGH", b"\x0C\x01ABCDEFGH"] {
+                let mut card = marked_card(STAGES[usize::from(value & 3)]);
+                card[AAC] = value;
+                both::command(FIXED, &mut card, &mut state.clone(), record, 0);
+            }
+        }
+    }
+}
+
+#[test]
+fn every_plain_command_in_every_state() {
+    for fuses in STAGES {
+        for state in states(2) {
+            for kind in [1, 2, 8, 9] {
+                let mut card = marked_card(fuses);
+                let byte = state[2] * 16 + kind;
+                card[CONFIGURATION..CONFIGURATION + 4].copy_from_slice(&[byte, !byte, 0x2C, 0x80]);
+                for space in 0..6 {
+                    both::command(FIXED, &mut card.clone(), &mut state.clone(), &[kind], space);
+                }
+            }
+        }
+    }
+    for byte in 0..=255 {
+        let mut card = marked_card(7);
+        card[CONFIGURATION..CONFIGURATION + 4].fill(byte);
+        both::command(FIXED, &mut card, &mut [7, 1, 1, 1], &[2], 4);
+    }
+}
+
+#[test]
+fn every_field_and_length_of_a_record() {
+    let mut card = marked_card(7);
+    let mut state = [1, 1, 7, 0];
+    for kind in 0..=255 {
+        for field in 0..=255 {
+            for length in 1..=14 {
+                let mut record = vec![kind, field, 9, 1, 2, 3, 4, 5, 6, 7, 8, 9, 10, 11];
+                record.truncate(length);
+                both::command(FIXED, &mut card, &mut state, &record, 256);
+                if kind > 14 {
+                    break;
+                }
+            }
+        }
+    }
+    for kind in [4, 5, 6, 7] {
+        for address in 0..=255 {
+            for count in 0..=255 {
+                let mut record = vec![kind, address, count];
+                if kind % 2 == 1 {
+                    record.resize(3 + usize::from(count.min(20)), address ^ count);
+                }
+                both::command(FIXED, &mut card, &mut state, &record, 256);
+                if kind % 2 == 1 && count <= 17 {
+                    record.pop();
+                    both::command(FIXED, &mut card, &mut state, &record, 256);
+                }
+            }
+        }
+    }
+    for count in 0..=255u8 {
+        let needed = if count == 0 { 256 } else { usize::from(count) };
+        for space in [0, needed - 1, needed, needed + 1, 400] {
+            both::command(FIXED, &mut card, &mut state, &[4, 0x80, count], space);
+            both::command(FIXED, &mut card, &mut state, &[6, 0, count], space);
+        }
+    }
+}
+
+#[test]
+fn every_byte_of_a_callers_mistake() {
+    // Each caller's fault alone, then together with all that comes later in the order.
+    let records: [&[u8]; 5] = [&[8], &[2], &[0], &[8, 8], &[]];
+    for record in records {
+        for space in [0, 4] {
+            for (at, value) in (0..4).flat_map(|at| (0..=255).map(move |value| (at, value))) {
+                for mut state in [[0, 0, 0, 0], [3, 1, 7, 2]] {
+                    state[at] = value;
+                    both::command(FIXED, &mut fresh_card(4), &mut state, record, space);
+                }
+            }
+            for length in 0..9 {
+                let mut state = vec![0; length];
+                both::command(FIXED, &mut fresh_card(4), &mut state, record, space);
+            }
+            for fuses in 0..=255 {
+                for mut state in [[0, 0, 0, 0], [8, 0, 0, 0]] {
+                    let mut card = fresh_card(fuses);
+                    both::command(FIXED, &mut card, &mut state, record, space);
+                    for length in [0, 1, FUSES, CARD + 1, 4000] {
+                        let mut odd = card.to_vec();
+                        odd.resize(length, fuses);
+                        both::command(FIXED, &mut odd, &mut state, record, space);
+                    }
+                }
+            }
+        }
+    }
+}
+
+/// One call of a generated list, faults of the caller included.
+fn one_call(rng: &mut Rng, seed: &str, card: &mut [u8], state: &mut [u8; 4], met: &mut Met) {
+    let mut record = gen::record(rng, card, state);
+    if rng.chance(12) {
+        record = gen::damaged_record(rng, &record);
+    }
+    let space = rng.pick(&[256, 300, 128, 16, 4, 1, 0, 255]);
+    let fault = rng.below(100);
+    let result = match fault {
+        0 => both::command(seed, card, &mut gen::damaged_state(rng), &record, space),
+        1 => {
+            let mut odd = card.to_vec();
+            odd[FUSES] = rng.pick(&[1, 2, 3, 5, 8, 0x47, 0xFF]);
+            both::command(seed, &mut odd, state, &record, space)
+        }
+        2 => {
+            let length = rng.pick(&[0, CARD - 1, CARD + 1, CARD + 8]);
+            let mut odd = card.to_vec();
+            odd.resize(length, 0);
+            both::command(seed, &mut odd, state, &record, space)
+        }
+        _ => {
+            let (before, was) = (card.to_vec(), *state);
+            let result = both::command(seed, card, state, &record, space);
+            if result & 0xFF == 0 {
+                met.note(&format!("kind {} at F={}", record[0], before[FUSES]));
+                reached(met, &record, &before, was, card, *state);
+            }
+            result
+        }
+    };
+    met.note("commands");
+    met.note(&format!("refusal {}", result & 0xFF));
+}
+
+/// Notes the deep states that a call has reached.
+fn reached(met: &mut Met, record: &[u8], before: &[u8], was: [u8; 4], card: &[u8], state: [u8; 4]) {
+    met.note_if("fuse blown", card[FUSES] != before[FUSES]);
+    let zone = usize::from(was[0]) * 256;
+    match record[0] {
+        4 if before[FUSES] != 7 => {
+            let register = before[REGISTERS + usize::from(was[0])];
+            met.note_if("read under RPE and ATE, granted", register & 0x60 == 0 && was[3] == 2);
+            let rolled = usize::from(record[1]) + usize::from(record[2]) > 256;
+            met.note_if("roll-over", rolled);
+        }
+        5 if before[FUSES] != 7 => {
+            let changed = before[zone..zone + 256] != card[zone..zone + 256];
+            met.note(if changed { "zone write stored" } else { "zone write kept out" });
+            let wraps = record[1] % 16 + record[2] > 16;
+            met.note_if("zone write wrapped", changed && wraps);
+        }
+        7 if before[FUSES] != 7 => {
+            let page = CONFIGURATION + usize::from(record[1] & 0x70);
+            let new = |i: usize| page + (usize::from(record[1]) + i) % 16;
+            let data = &record[3..];
+            let stored = (0..data.len()).filter(|&i| card[new(i)] == data[i]).count();
+            met.note_if("mixed page", stored > 1 && stored + 1 < data.len());
+        }
+        10 => {
+            let at = counter(record[1]);
+            let right = before[at + 1..at + 4] == record[2..];
+            met.note(match (before[at], right) {
+                (0, true) => "locked, right",
+                (0, false) => "locked, wrong",
+                (_, true) => "right password",
+                (_, false) => "wrong password",
+            });
+            met.note_if("last try lost", before[at] != 0 && card[at] == 0);
+        }
+        _ => {}
+    }
+    for (name, from, to) in [("granted", 1, 2), ("rejected", 1, 0), ("lost", 2, 0), ("again", 2, 1)]
+    {
+        met.note_if(name, was[3] == from && state[3] == to);
+    }
+}
+
+#[test]
+fn lists_of_commands() {
+    let mut met = Met::default();
+    for seed in seeds(4000) {
+        let mut rng = Rng::new(seed);
+        let mut card = gen::card(&mut rng);
+        let mut state = [0; 4];
+        for call in 0..60 {
+            let name = format!("{seed}, call {call}");
+            one_call(&mut rng, &name, &mut card, &mut state, &mut met);
+        }
+        // From any state at all.
+        state = gen::state(&mut rng);
+        for call in 60..75 {
+            let name = format!("{seed}, call {call}");
+            one_call(&mut rng, &name, &mut card, &mut state, &mut met);
+        }
+    }
+    met.require("commands", 200_000);
+    for refusal in [0, 5, 6, 7, 8, 9, 10, 11, 12] {
+        met.require(&format!("refusal {refusal}"), 500);
+    }
+    for (kind, fuses) in (1..=12).flat_map(|kind| STAGES.map(|fuses| (kind, fuses))) {
+        met.require(&format!("kind {kind} at F={fuses}"), 300);
+    }
+    #[rustfmt::skip]
+    let deep = [
+        "fuse blown", "read under RPE and ATE, granted", "roll-over", "mixed page",
+        "zone write stored", "zone write kept out", "zone write wrapped",
+        "right password", "wrong password", "last try lost", "locked, right", "locked, wrong",
+        "granted", "rejected", "lost", "again",
+    ];
+    for what in deep {
+        met.require(what, 200);
+    }
+}
+
+/// Reads answers of a log: some that are there, some that are not.
+fn read_log(rng: &mut Rng, seed: &str, log: &[u8], met: &mut Met) {
+    let count =
+        log.len().checked_sub(4).map_or(0, |at| u64::from(log[at]) + 256 * u64::from(log[at + 1]));
+    let some = rng.draw() % (count + 1);
+    for number in [0, some, count.saturating_sub(1), count, some + (1 << 32), u64::MAX] {
+        let result = both::answer(seed, log, number);
+        met.note("log reads");
+        met.note(&format!("refusal {}", result & 0xFF));
+    }
+}
+
+/// Runs a session with log spaces too short, exact and long, and reads its log.
+fn one_session(rng: &mut Rng, seed: &str, session: &[u8], met: &mut Met) {
+    let long = rng.pick(&[65_536, 70_000, 1_100_000]);
+    let (result, log) = both::run(seed, session, long);
+    met.note("sessions");
+    met.note(&format!("refusal {}", result & 0xFF));
+    let needed = (result >> 8) as usize;
+    if result & 0xFF == 0 {
+        both::run(seed, session, needed);
+        both::run(seed, session, needed + 1);
+        let short = rng.below(needed);
+        for space in [needed - 1, short] {
+            let (result, _) = both::run(seed, session, space);
+            met.note(&format!("refusal {}", result & 0xFF));
+        }
+        read_log(rng, seed, &log[..needed], met);
+        let damaged = gen::damaged_log(rng, &log[..needed]);
+        read_log(rng, seed, &damaged, met);
+    } else {
+        both::run(seed, session, rng.pick(&[0, 2184, 2185, 3000]));
+    }
+}
+
+#[test]
+fn sessions_and_logs() {
+    let mut met = Met::default();
+    for seed in seeds(4000) {
+        let mut rng = Rng::new(seed);
+        let name = seed.to_string();
+        let few = rng.below(12);
+        let some = rng.below(150);
+        let mut records = rng.pick(&[0, few, few, some, some, some]);
+        if rng.chance(2) {
+            records = 4096;
+        }
+        let session = gen::session(&mut rng, records);
+        one_session(&mut rng, &name, &session, &mut met);
+        let damaged = gen::damaged_session(&mut rng, &session);
+        one_session(&mut rng, &name, &damaged, &mut met);
+    }
+    met.require("sessions", 5_000);
+    met.require("log reads", 20_000);
+    for refusal in (0..=10).chain([13, 14]) {
+        met.require(&format!("refusal {refusal}"), 100);
+    }
+}
+
+#[test]
+fn every_change_of_a_trailer_or_header() {
+    let session = Author::new(6)
+        .text(b"text")
+        .reset()
+        .read(0xFF, 3)
+        .write(0x0F, &[1, 2])
+        .read_configuration(0x7E, 2)
+        .write_configuration(0x38, &[1])
+        .right(7)
+        .begin()
+        .verdict(1, b"ABCDEFGH")
+        .select(2)
+        .read_fuses()
+        .write_fuses()
+        .power()
+        .session();
+    let (result, space) = both::run(FIXED, &session, 3000);
+    let log = space[..(result >> 8) as usize].to_vec();
+    for at in (FUSES..session.len()).rev() {
+        both::run(FIXED, &session[..at], 3000);
+        for value in 0..=255 {
+            let mut changed = session.clone();
+            changed[at] = value;
+            both::run(FIXED, &changed, 3000);
+        }
+    }
+    let card_at = log.len() - CARD - 8;
+    let trailer = card_at + FUSES..log.len();
+    for at in (0..card_at).chain(trailer) {
+        both::answer(FIXED, &log[..at], 0);
+        for value in 0..=255 {
+            let mut changed = log.clone();
+            changed[at] = value;
+            for number in [0, 11, 12] {
+                both::answer(FIXED, &changed, number);
+            }
+        }
+    }
+    for length in 0..log.len() {
+        both::answer(FIXED, &log[length..], 0);
+        both::answer(FIXED, &log[..length], 0);
+    }
+    for length in (0..session.len()).step_by(5) {
+        both::run(FIXED, &session[..length], 3000);
+    }
+}
+
+#[test]
+fn every_set_of_faults_in_a_session() {
+    for faults in 0..256 {
+        let has = |bit: u32| faults >> bit & 1 == 1;
+        let mut author = Author::new(if has(4) { 5 } else { 6 }).reset();
+        if has(0) {
+            author = author.text(&[b' '; 65_536]);
+        }
+        if has(5) {
+            author = author.record(&[13]);
+        }
+        if has(6) {
+            author = author.select(8);
+        }
+        let mut session = author.session();
+        let end = session.len() - 8;
+        if has(1) {
+            session[end + 7] ^= 1;
+        }
+        if has(2) {
+            session[end..end + 4].fill(0);
+        }
+        if has(3) {
+            session[end + 5] = 0x20;
+        }
+        if has(7) {
+            session.insert(end, 8);
+        }
+        for space in [0, 2191, 2192, 70_000] {
+            both::run(FIXED, &session, space);
+        }
+    }
+}
+
+/// A log written by hand: these entries' kinds and lengths, zeros for responses.
+fn written_log(entries: &[(u8, u16)], count: u16) -> Vec<u8> {
+    let mut log = Vec::new();
+    for &(kind, length) in entries {
+        log.push(kind);
+        log.extend(length.to_le_bytes());
+        log.resize(log.len() + usize::from(length), 0);
+    }
+    let card_at = log.len() as u32;
+    log.extend(fresh_card(4));
+    log.extend(card_at.to_le_bytes());
+    log.extend(count.to_le_bytes());
+    log.extend(b"LO");
+    log
+}
+
+#[test]
+fn every_kind_and_length_in_a_log() {
+    for kind in 0..=14 {
+        for length in (0..=300).chain([511, 512, 0x0101, 0xFFFF]) {
+            let log = written_log(&[(8, 1), (kind, length), (1, 0)], 3);
+            for number in 0..4 {
+                both::answer(FIXED, &log, number);
+            }
+        }
+    }
+    for count in [4095, 4096, 4097, 5000] {
+        let entries = vec![(11, 0); count];
+        let log = written_log(&entries, count as u16);
+        for number in [0, 4094, 4095, 4096, 4097] {
+            both::answer(FIXED, &log, number);
+        }
+    }
+    for count in 0..5 {
+        both::answer(FIXED, &written_log(&[(4, 256), (6, 128), (2, 4)], count), 0);
+    }
+}
+
+#[test]
+fn edges_of_length_and_count() {
+    for length in [65_535, 65_536, 65_537, 65_538, 131_072] {
+        let text = vec![b' '; length - CARD - 9];
+        let session = Author::new(6).text(&text).read_fuses().session();
+        both::run(FIXED, &session, 70_000);
+    }
+    for count in [4095, 4096, 4097] {
+        let many = |record: &[u8]| Author::new(4).times(count, |a| a.record(record)).session();
+        both::run(FIXED, &many(&[8]), 70_000);
+        both::run(FIXED, &many(&[4, 3, 0]), 1_100_000);
+    }
+}
+
+#[test]
+fn sample_sessions() {
+    for session in samples::all() {
+        for space in [0, 2185, 65_536, 1_100_000] {
+            both::run(FIXED, &session, space);
+        }
+    }
+}

@@ -1,0 +1,52 @@
+//! The proved library's three calls, on slices.
+
+#[link(name = "exports", kind = "static")]
+extern "C" {
+    #[link_name = "at88sc1608_run"]
+    fn linked_run(session: *const u8, session_len: usize, log: *mut u8, log_len: usize) -> u64;
+    #[link_name = "at88sc1608_command"]
+    fn linked_command(
+        card: *mut u8,
+        card_len: usize,
+        state: *mut u8,
+        state_len: usize,
+        record: *const u8,
+        record_len: usize,
+        response: *mut u8,
+        response_len: usize,
+    ) -> u64;
+    #[link_name = "at88sc1608_answer"]
+    fn linked_answer(log: *const u8, log_len: usize, number: u64) -> u64;
+}
+
+pub fn at88sc1608_run(session: &[u8], log: &mut [u8]) -> u64 {
+    // Sound as long as the library stays within the lengths it is given.
+    unsafe { linked_run(session.as_ptr(), session.len(), log.as_mut_ptr(), log.len()) }
+}
+
+#[allow(dead_code)] // The benchmark has no use for it.
+pub fn at88sc1608_command(
+    card: &mut [u8],
+    state: &mut [u8],
+    record: &[u8],
+    response: &mut [u8],
+) -> u64 {
+    // Sound as long as the library stays within the lengths it is given.
+    unsafe {
+        linked_command(
+            card.as_mut_ptr(),
+            card.len(),
+            state.as_mut_ptr(),
+            state.len(),
+            record.as_ptr(),
+            record.len(),
+            response.as_mut_ptr(),
+            response.len(),
+        )
+    }
+}
+
+pub fn at88sc1608_answer(log: &[u8], number: u64) -> u64 {
+    // Sound as long as the library stays within the lengths it is given.
+    unsafe { linked_answer(log.as_ptr(), log.len(), number) }
+}
