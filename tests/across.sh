@@ -45,8 +45,20 @@ try() { # EDIT
     fi
 }
 
+# Two at a time; what each says stays together.
+edits=("$top"/tests/across/*.edit)
 status=0
-for edit in "$top"/tests/across/*.edit; do
-    try "$edit" || status=1
+for ((i = 0; i < ${#edits[@]}; i += 2)); do
+    pids=()
+    for edit in "${edits[@]:i:2}"; do
+        try "$edit" >"$work/$(basename "$edit").said" 2>&1 &
+        pids+=($!)
+    done
+    for pid in "${pids[@]}"; do
+        wait "$pid" || status=1
+    done
+    for edit in "${edits[@]:i:2}"; do
+        cat "$work/$(basename "$edit").said"
+    done
 done
 exit $status

@@ -24,10 +24,10 @@ use Rattle.model.specs.Session.{entriesOf, endOf, initial, logOf, rejected, Rea
 use Rattle.model.specs.Session as session
 use Rattle.model.specs.Single.{check, apply, admit, command}
 use Rattle.model.specs.Volatile.{Volatile}
-use Rattle.log.specs.LogLaws.{entered, trailed, answered}
-use Rattle.log.specs.Written.{fits-small, entries-small, log-length}
-use Rattle.session.specs.ReadBack.{laid-out}
-use Rattle.session.specs.SessionLaws.{decode-logs}
+use Rattle.properties.specs.LogLaws.{entered, trailed, answered}
+use Rattle.properties.specs.Written.{fits-small, entries-small, log-length}
+use Rattle.properties.specs.ReadBack.{laid-out}
+use Rattle.properties.specs.SessionLaws.{decode-logs}
 
 -- ---- a response
 

@@ -8,7 +8,7 @@ use lib.ListN.{length, take, drop, length-append, length-drop}
 use lib.Seq.{getD-take, getD-drop, length-take-le, drop-drop, take-nil, drop-nil, take-all}
 use Rattle.model.specs.Lists.{at, and-left, and-right}
 use Rattle.model.specs.Log.{countOf, offsetOf, lengthAt, entryOk, entriesOk, trailerOk, valid}
-use Rattle.log.specs.LogLaws.{entered, Trailed, trailed}
+use Rattle.properties.specs.LogLaws.{entered, Trailed, trailed}
 use Rattle.listing.specs.Put.{Put}
 use Rattle.listing.specs.Ready.{EntriesReady, LogReady}
 use Rattle.listing.specs.Text.{hex, hexes, decimal, line, fusesLine}

@@ -11,9 +11,9 @@ use Rattle.model.specs.Log.{LaidOut}
 use Rattle.model.specs.Session.{entriesOf, endOf, initial, logOf, Ran, run}
 use Rattle.record.specs.Refusal.{refusalNumber, number-some}
 use Rattle.record.specs.declared.refusal.Refusal.{Refusal}
-use Rattle.log.specs.Written.{log-length, entries-small}
-use Rattle.session.specs.Accepted.{Accepts, accepted-run, accepting, run-accepted}
-use Rattle.session.specs.ReadBack.{laid-out, log-valid}
+use Rattle.properties.specs.Written.{log-length, entries-small}
+use Rattle.properties.specs.Accepted.{Accepts, accepted-run, accepting, run-accepted}
+use Rattle.properties.specs.ReadBack.{laid-out, log-valid}
 use Rattle.listing.specs.Put.{Put}
 use Rattle.listing.specs.Ready.{LogReady}
 use Rattle.listing.specs.Text.{refusedLine}

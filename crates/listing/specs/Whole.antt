@@ -8,9 +8,9 @@ use Rattle.model.specs.Lists.{Bytes, choice}
 use Rattle.model.specs.Reader.{partAt}
 use Rattle.model.specs.Record.{recordLength}
 use Rattle.model.specs.Session.{startOf, countOf, logOf, run}
-use Rattle.session.specs.Accepted.{accepted-run}
-use Rattle.session.specs.Conditions.{Condition, recordConditions, recordsConditions, lastConditions, conditions, first, refusal-is}
-use Rattle.session.specs.ReadBack.{laid-out}
+use Rattle.properties.specs.Accepted.{accepted-run}
+use Rattle.properties.specs.Conditions.{Condition, recordConditions, recordsConditions, lastConditions, conditions, first, refusal-is}
+use Rattle.properties.specs.ReadBack.{laid-out}
 use Rattle.listing.specs.Text.{decimal}
 use Rattle.listing.specs.TextLaws.{decimal-few}
 use Rattle.listing.specs.Listing.{listing, logLines}

@@ -6,7 +6,7 @@ use mathlib.Core.Path.{_≡_, sym, _∙_}
 use borrow.Author.Tests.{lt-ltb, le-ltb, not-true, not-false}
 use Rattle.model.specs.Log.{lengthAt, nextEntry, countOf, offsetOf, trailerOk, valid, find, missing, lies}
 use Rattle.model.specs.Refusal.{notALog, noSuchAnswer}
-use Rattle.log.specs.LogLaws.{Trailed, trailed, entry-ends}
+use Rattle.properties.specs.LogLaws.{Trailed, trailed, entry-ends}
 use Rattle.log.specs.Scan.{Scanned}
 
 module _ (l : List ℕ) (k : ℕ) (ok : Bool) (trailer : ok ≡ trailerOk l) where

@@ -1,3 +1,5 @@
+mod CopyLaws
+mod RollLaws
 mod ConfigurationLaws
 mod ResetLaws
 mod ZoneLaws

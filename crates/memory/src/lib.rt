@@ -1,5 +1,6 @@
 // Reading and writing the card's bytes: zones, the configuration, the answer to reset.
 pub mod configuration;
+pub mod copy;
 pub mod page;
 pub mod reset;
 pub mod reversal;

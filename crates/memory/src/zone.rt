@@ -2,38 +2,48 @@
 ghost use mathlib.Core.Path.{_≡_};
 ghost use mathlib.Core.Bool.{cond};
 ghost use mathlib.Core.List.{_++_};
-ghost use Prim.Native.Nat.{_+_, _%_, _<_, _≤_};
+ghost use Prim.Native.Nat.{_+_, _%_, _<_, _≤_, min};
 ghost use lib.ListN.{length, drop};
 ghost use Rattle.model.specs.Lists.{at, tab};
 ghost use Rattle.model.specs.Command.{readZone, writeZone};
 ghost use Rattle.model.specs.Single.{apply};
 ghost use Rattle.memory.specs.Page.{mergesOf};
 ghost use Rattle.access.specs.State.{volatileOf};
+use crate::copy::clear;
+use crate::copy::copy;
 use crate::page;
 use access::register;
 use access::rights::zone_readable;
 use access::rights::zone_writable;
 use access::volatile::Volatile;
 
-// A byte as it is answered: $00 where the zone may not be read.
-fn shown(readable: bool, byte: u8) -> u8
-    ensures { λ r. ⌜ r ≡ cond readable byte 0 ⌝ }
+// The lesser of two numbers.
+fn least(a: usize, b: usize) -> usize
+    ensures { λ r. ⌜ r ≡ min a b ⌝ }
 {
-    if readable {
-        return byte;
+    if a < b {
+        return a;
     }
-    0
+    b
 }
 
-// count bytes of the 256 from base on, starting at the address and going on at the first past the last.
+// count bytes of the 256 from base on, starting at the address and going on at the first past the last; $00 for each where the
+// zone may not be read.
 fn roll(card: &[u8], base: usize, address: usize, count: usize, readable: bool, response: &mut [u8])
     requires { ⌜ (base + 256 ≤ length (now card)) × (address < 256) × (count ≤ length (now response)) ⌝ }
     ensures { λ _. ⌜ now (response .exit) ≡ tab (λ k. cond readable (at (now (card .entry)) (base + (address + k) % 256)) 0) count ++ drop count (now (response .entry)) ⌝ }
 {
+    if !readable {
+        clear(response, count);
+        return;
+    }
     let mut i = 0;
+    let mut next = address;
     while i < count {
-        response[i] = shown(readable, card[base + (address + i) % 256]);
-        i += 1;
+        let run = least(count - i, 256 - next);
+        copy(response, i, card, base + next, run);
+        i += run;
+        next = 0;
     }
 }
 

@@ -1,15 +1,15 @@
 -- Lists of numbers: cards, records, answers, spaces. What lies past a list's end reads as 0.
-use Prim.Native.Nat.{ℕ, zero, suc, _<_}
+use Prim.Native.Nat.{ℕ, zero, suc, _+_, _≤_, _<_}
 use mathlib.Core.Bool.{Bool, true, false, cond, _&&_, true≢false}
-use mathlib.Core.List.{List, [], _∷_, _++_}
+use mathlib.Core.List.{List, [], _∷_, _++_, append-assoc, append-nil}
 use mathlib.Core.Path.{_≡_, refl, sym, ap, _∙_}
-use native.Mathlib.Nat.{not-suc-le-zero}
+use native.Mathlib.Nat.{not-suc-le-zero, add-zero, add-suc}
 use native.Mathlib.Numerals.{add-one}
 use native.Mathlib.Omega.{arith}
 use borrow.Author.Tests.{ltb-true, ltb-false, eqb-true, eqb-false, eq-eqb}
 use lib.Dec.{ltb, eqb}
-use lib.ListN.{length, getD, set, length-append, length-set, List·getD-append}
-use lib.Seq.{getD-set-same, getD-set-other, set-out, getD-at}
+use lib.ListN.{length, take, drop, getD, set, length-append, length-drop, length-set, List·getD-append}
+use lib.Seq.{getD-set-same, getD-set-other, set-out, getD-at, getD-drop, take-suc}
 
 -- the element at a place
 abbrev pub at : List ℕ → ℕ → ℕ
@@ -83,6 +83,23 @@ at-tab f (suc n) i h = go (at-tab f n i) (eqb i n) refl
         let ne : i ≡ n → ⊥ = eqb-false i n e in
         let l : i < n = omega arith in
         List·getD-append (tab f n) (f n ∷ []) 0 i (rw (length-tab f n) l) ∙ ih l
+
+pub tab-add : (f : ℕ → ℕ) (m n : ℕ) → tab f (m + n) ≡ tab f m ++ tab (λ k. f (m + k)) n
+unfolding tab
+tab-add f m zero = ap (tab f) (add-zero m) ∙ sym (append-nil (tab f m))
+tab-add f m (suc n) =
+    ap (tab f) (add-suc m n)
+    ∙ ap (λ (x : List ℕ). x ++ (f (m + n) ∷ [])) (tab-add f m n)
+    ∙ append-assoc (tab f m) (tab (λ k. f (m + k)) n) (f (m + n) ∷ [])
+
+-- a part of a list
+pub tab-part : (l : List ℕ) (i n : ℕ) → i + n ≤ length l → tab (λ k. at l (i + k)) n ≡ take n (drop i l)
+unfolding tab
+tab-part l i zero h = refl
+tab-part l i (suc n) h =
+    let d = length-drop i l in
+    let e = sym (getD-drop i l n 0) in
+    (λ t. tab-part l i n (omega arith) t ++ (e t ∷ [])) ∙ sym (take-suc (drop i l) n 0 (omega arith))
 
 pub at-set : (c : List ℕ) (i v j : ℕ) → at (set c i v) j ≡ cond (eqb j i && ltb i (length c)) v (at c j)
 at-set c i v j = go (eqb j i) (ltb i (length c)) refl refl

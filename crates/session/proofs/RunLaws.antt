@@ -7,13 +7,14 @@ use native.Mathlib.Omega.{arith}
 use borrow.Author.Tests.{lt-ltb, eq-eqb, eqb-true}
 use lib.Dec.{eqb}
 use lib.ListN.{length, drop, length-append}
-use lib.Seq.{sets, sets-eq, length-take-le}
+use lib.Seq.{sets, length-take-le}
 use Rattle.model.specs.Command.{Command}
+use Rattle.model.specs.Numbers.{sets-front}
 use Rattle.model.specs.Reader.{recordsEnd}
 use Rattle.model.specs.Refusal.{bytesLeft, noSpace}
 use Rattle.model.specs.Session.{startOf, countOf, frame, Read, stopped, all, readFrom, initial, logOf, rejected, ended, framed, run}
-use Rattle.session.specs.SessionLaws.{end-length}
-use Rattle.session.specs.Accepted.{framed-well, run-accepted}
+use Rattle.properties.specs.SessionLaws.{end-length}
+use Rattle.properties.specs.Accepted.{framed-well, run-accepted}
 use Rattle.session.specs.Check.{entriesTotal, unfit, sized, sizedOf, onFrame, checkOf}
 use Rattle.session.specs.Run.{LogReady, LogWritten}
 use Rattle.session.proofs.WriteLaws.{entries-total}
@@ -24,9 +25,6 @@ pub record Fits (s : List ℕ) (n : ℕ) : Type 0 where
   pub frames : frame s ≡ 0
   pub reads : readFrom (countOf s) s (startOf s) ≡ all commands (recordsEnd (length s))
   pub total : n ≡ entriesTotal commands
-
-sets-front : (l vs : List ℕ) → length vs ≤ length l → sets l 0 vs ≡ vs ++ drop (length vs) l
-sets-front l vs h = sets-eq vs l 0 (omega arith) ∙ ap (λ (k : ℕ). vs ++ drop k l) (let e : 0 + length vs ≡ length vs = omega arith in e)
 
 module _ (s : List ℕ) (n : ℕ) where
   pub fits : sized n ≡ checkOf s → Fits s n

@@ -4,8 +4,8 @@ use mathlib.Core.List.{List, [], _∷_, _++_, append-assoc, append-nil}
 use mathlib.Core.Path.{_≡_, refl, sym, ap, subst, _∙_}
 use native.Mathlib.Omega.{arith}
 use borrow.Author.Tests.{ltb-true}
-use lib.ListN.{length, take, drop, set, length-append, length-take, length-drop, length-set, take-append-drop, drop-of-length-le}
-use lib.Seq.{sets, sets-eq, length-sets, drop-append-le, drop-drop, drop-cons, getD-take, take-all, length-take-le}
+use lib.ListN.{length, take, drop, length-append, length-take, length-drop, take-append-drop, drop-of-length-le}
+use lib.Seq.{sets, sets-eq, length-sets, drop-append-le, drop-drop, take-all, length-take-le}
 use Rattle.model.specs.Lists.{at, and-left}
 use Rattle.model.specs.Numbers.{bytesOf, sets-append}
 use Rattle.model.specs.At88sc1608.{at88sc1608}
@@ -23,41 +23,9 @@ use Rattle.model.specs.Single.{apply}
 use Rattle.model.specs.Volatile.{Volatile, powerUp}
 use Rattle.command.specs.Carried.{Ready, Carried}
 use Rattle.session.specs.Check.{entriesTotal}
-use Rattle.session.specs.Accepted.{framed-well, card-good}
+use Rattle.properties.specs.Accepted.{framed-well, card-good}
 use Rattle.session.specs.Run.{EntryReady, EntryWritten, RecordsReady, RecordsRun, LogReady, LogWritten}
-use Rattle.session.specs.SessionLaws.{First, read-first, read-none, read-count, entries-length, entry-length, end-length}
-
--- ---- copying
-
--- what is known when i bytes are copied: the rest leads to the same
-pub record Copying (to₀ : List ℕ) (place : ℕ) (from : List ℕ) (count i : ℕ) (to : List ℕ) : Type 0 where
-  pub few : i ≤ count
-  pub long : length to ≡ length to₀
-  pub rest : sets to (place + i) (drop i (take count from)) ≡ sets to₀ place (take count from)
-
-pub copying-start : (to : List ℕ) (place : ℕ) (from : List ℕ) (count : ℕ) → Copying to place from count 0 to
-copying-start to place from count =
-    record { few = omega arith; long = refl; rest = ap (λ (k : ℕ). sets to k (take count from)) (let e : place + 0 ≡ place = omega arith in e) }
-
-module _ (to₀ : List ℕ) (place : ℕ) (from : List ℕ) (count i : ℕ) (to : List ℕ) (p : Copying to₀ place from count i to) where
-  pub copying-next : i < count → count ≤ length from → Copying to₀ place from count (i + 1) (set to (place + i) (at from i))
-  copying-next l h =
-      let e : drop i (take count from) ≡ at from i ∷ drop (suc i) (take count from) =
-      drop-cons (take count from) i 0 (rw (length-take-le count from h) l) ∙ ap (λ (x : ℕ). x ∷ drop (suc i) (take count from)) (getD-take count from i 0 l) in
-      let n : i + 1 ≡ suc i = omega arith in
-      let k : place + (i + 1) ≡ suc (place + i) = omega arith in
-      record {
-        few = omega arith;
-        long = length-set to (place + i) (at from i) ∙ p .long;
-        rest =
-            (λ t. sets (set to (place + i) (at from i)) (k t) (drop (n t) (take count from)))
-            ∙ sym (ap (sets to (place + i)) e) ∙ p .rest;
-      }
-
-  pub copying-done : count ≤ i → to ≡ sets to₀ place (take count from)
-  copying-done l =
-      let h : length (take count from) ≤ i = (let e = length-take count from in omega arith) in
-      sym (ap (sets to (place + i)) (drop-of-length-le (take count from) h)) ∙ p .rest
+use Rattle.properties.specs.SessionLaws.{First, read-first, read-none, read-count, entries-length, entry-length, end-length}
 
 -- ---- one entry
 

@@ -1,11 +1,2 @@
-pub mod SessionLaws
-pub mod Accepted
-pub mod Conditions
-pub mod ReadBack
-pub mod EachRecord
-pub mod AsCalls
-pub mod Alike
-pub mod Demand3
-pub mod Edges
 pub mod Check
 pub mod Run

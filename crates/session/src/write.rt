@@ -1,9 +1,6 @@
 // A session that was checked is run on a working card, and its log written.
 ghost use mathlib.Core.Path.{_≡_};
 ghost use mathlib.Core.List.{[]};
-ghost use Prim.Native.Nat.{_+_, _≤_};
-ghost use lib.ListN.{length, take};
-ghost use lib.Seq.{sets};
 ghost use Rattle.model.specs.Call.{powered};
 ghost use Rattle.model.specs.Session.{kindOf};
 ghost use Rattle.access.specs.State.{volatileOf};
@@ -15,6 +12,7 @@ use command::admit::answer_length;
 use command::carry::carry_out;
 use log::write::put_header;
 use log::write::put_trailer;
+use memory::copy::copy;
 use record::decoder::Decoded;
 use record::decoder::Record;
 use record::number::get2;
@@ -39,18 +37,6 @@ fn kind_number(record: Record) -> u8
         Record::VerifyPassword(_) => 10,
         Record::BeginAuthentication => 11,
         Record::VerifyAuthentication(_) => 12,
-    }
-}
-
-// helper: the first bytes of one slice put into another from a place on.
-fn copy(to: &mut [u8], at: usize, from: &[u8], count: usize)
-    requires { ⌜ (at + count ≤ length (now to)) × (count ≤ length (now from)) ⌝ }
-    ensures { λ _. ⌜ now (to .exit) ≡ sets (now (to .entry)) at (take count (now (from .entry))) ⌝ }
-{
-    let mut i = 0;
-    while i < count {
-        to[at + i] = from[i];
-        i += 1;
     }
 }
 
@@ -104,8 +90,8 @@ pub fn write_log(session: &[u8], entries: usize, log: &mut [u8])
     let start = get4(session, length - 8);
     let count = get2(session, length - 4);
     let mut card = [0u8; 2177];
-    copy(&mut card, 0, session, 2177);
+    copy(&mut card, 0, session, 0, 2177);
     run_records(session, start, count, &mut card, log);
-    copy(log, entries, &card, 2177);
+    copy(log, entries, &card, 0, 2177);
     put_trailer(log, entries + 2177, entries, count);
 }

@@ -4,7 +4,7 @@ use native.Mathlib.Nat.{add-sub-cancel-left}
 use native.Mathlib.Omega.{arith}
 use borrow.Author.Needs.{needs}
 use Rattle.log.specs.Found.{foundOf}
-use Rattle.log.specs.LogLaws.{answer-within}
+use Rattle.properties.specs.LogLaws.{answer-within}
 use Rattle.log.proofs.find.answer.Statement.{statement}
 use Rattle.log.proofs.find.answer.Tie as tie
 

@@ -1,40 +1,43 @@
--- The answer so far stands at the front of the space, and the rest of it is untouched.
-use Prim.Native.Nat.{_+_, _-_, _%_, _≤_}
-use mathlib.Core.Bool.{cond}
-use mathlib.Core.List.{_++_}
-use mathlib.Core.Path.{_≡_}
+-- What is known when i bytes are answered is `Rolling`.
+use Prim.Native.Nat.{_-_}
 use borrow.Author.Needs.{needs}
-use lib.ListN.{length, drop}
-use Rattle.model.specs.Lists.{at, tab}
-use Rattle.model.specs.Loops.{tab-start, tab-next, tab-done}
+use native.Mathlib.Omega.{arith}
+use Rattle.memory.proofs.RollLaws.{Rolling, rolling-start, rolling-long, rolling-next, rolling-done, not-shown}
 use Rattle.memory.proofs.zone.roll.Statement.{statement}
 use Rattle.memory.proofs.zone.roll.Tie as tie
 
 abbrev Inv-loop : tie.InvT-loop
-Inv-loop card base address count readable response₀ i₀ response i =
-    (i ≤ count) × (length response ≡ length response₀)
-    × (response ≡ tab (λ k. cond readable (at card (base + (address + k) % 256)) 0) i ++ drop i response₀)
+Inv-loop card base address count readable response₀ i₀ next₀ response i next = Rolling card base address count i next response₀ response
 
 abbrev μ-loop : tie.MeasureT-loop
-μ-loop card base address count readable response₀ i₀ response i = count - i
+μ-loop card base address count readable response₀ i₀ next₀ response i next = count - i
+
+clear-requires : tie.Need-clear-requires Inv-loop μ-loop
+clear-requires c κs = search needs
+
+same-length : tie.Need-same-length Inv-loop μ-loop
+same-length c = search needs
+
+returns : tie.Need-returns Inv-loop μ-loop
+returns c = not-shown (c .before .before .before .before .before .before .before .args .card .now) (c .before .before .before .before .before .before .before .args .base) (c .before .before .before .before .before .before .before .args .address) (c .before .before .before .before .before .before .before .args .readable) _ _ _ (c .before .before .before .before .if1 .taken) (c .before .before .clear .ensures)
 
 loop-holds : tie.Need-loop-holds Inv-loop μ-loop
-loop-holds c = search (needs, tab-start)
+loop-holds c = rolling-start _ _ _ _ _ (c .before .before .before .pre .1)
 
-add-shown : tie.Need-add-shown Inv-loop μ-loop
-add-shown c = search needs
+sub-least : tie.Need-sub-least Inv-loop μ-loop
+sub-least c = search needs
 
-add-shown-2 : tie.Need-add-shown-2 Inv-loop μ-loop
-add-shown-2 c = search needs
+sub-least-2 : tie.Need-sub-least-2 Inv-loop μ-loop
+sub-least-2 c = search needs
 
-shared-slice-read-shown : tie.Need-shared-slice-read-shown Inv-loop μ-loop
-shared-slice-read-shown c = search needs
+least-requires : tie.Need-least-requires Inv-loop μ-loop
+least-requires c κs = search needs
 
-shown-requires : tie.Need-shown-requires Inv-loop μ-loop
-shown-requires c κs = search needs
+add-copy : tie.Need-add-copy Inv-loop μ-loop
+add-copy c = search needs
 
-slice-write-response : tie.Need-slice-write-response Inv-loop μ-loop
-slice-write-response c = search needs
+copy-requires : tie.Need-copy-requires Inv-loop μ-loop
+copy-requires c κs = let l = rolling-long _ _ _ _ _ _ _ _ (c .before .before .before .loop .inv) in let m = c .before .least .ensures in let p = c .before .before .before .before .before .before .before .pre in search needs
 
 add-i : tie.Need-add-i Inv-loop μ-loop
 add-i c = search needs
@@ -43,13 +46,13 @@ loop-less : tie.Need-loop-less Inv-loop μ-loop
 loop-less c = search needs
 
 loop-again : tie.Need-loop-again Inv-loop μ-loop
-loop-again c = search (needs, tab-next)
+loop-again c = rolling-next _ _ _ _ _ _ _ _ (c .before .before .before .before .before .before .loop .inv) _ _ (c .before .before .before .before .before .loop-test .taken) (c .before .before .before .before .before .before .before .before .before .before .pre .0) (c .before .before .before .before .least .ensures) (c .before .before .copy .ensures)
 
-same-length : tie.Need-same-length Inv-loop μ-loop
-same-length c = search needs
+same-length-2 : tie.Need-same-length-2 Inv-loop μ-loop
+same-length-2 c = rolling-long _ _ _ _ _ _ _ _ (c .before .loop .inv)
 
-returns : tie.Need-returns Inv-loop μ-loop
-returns c = search tab-done
+returns-2 : tie.Need-returns-2 Inv-loop μ-loop
+returns-2 c = rolling-done _ _ _ _ _ _ _ _ (c .before .loop .inv) (c .before .before .before .before .before .args .readable) (search needs) (c .before .before .before .before .before .pre .2) (c .before .before .if1 .left)
 
 pub roll-spec : {M : Type 1} → statement M
 roll-spec =
@@ -57,14 +60,17 @@ roll-spec =
     (tie.spec
     Inv-loop
     μ-loop
+    clear-requires
+    same-length
+    returns
     loop-holds
-    add-shown
-    add-shown-2
-    shared-slice-read-shown
-    shown-requires
-    slice-write-response
+    sub-least
+    sub-least-2
+    least-requires
+    add-copy
+    copy-requires
     add-i
     loop-less
     loop-again
-    same-length
-    returns)
+    same-length-2
+    returns-2)

@@ -3,7 +3,7 @@ use mathlib.Core.Path.{sym, ap, _∙_}
 use native.Mathlib.Omega.{arith}
 use borrow.Author.Needs.{needs}
 use Rattle.command.specs.Reply.{outcomeNumber}
-use Rattle.session.specs.Accepted.{framed-well}
+use Rattle.properties.specs.Accepted.{framed-well}
 use Rattle.session.proofs.CheckLaws.{frame-refused, records-checked}
 use Rattle.session.proofs.check.check.Statement.{statement}
 use Rattle.session.proofs.check.check.Tie as tie

@@ -22,7 +22,7 @@ use Rattle.model.specs.Record.{known, inRange, dataLength, made, dataAt, record
 use Rattle.model.specs.RecordLaws.{accepted, each-kind}
 use Rattle.model.specs.Refusal.{sessionLength, sessionTrailer, startOutOfRange, tooManyRecords, fuseByte, unknownKind, fieldOutOfRange, cutShort, bytesLeft, noSpace}
 use Rattle.model.specs.Session.{startOf, countOf, wrongLength, wrongTrailer, wrongStart, wrongCount, wrongFuses, frame, Read, stopped, all, onDecoded, more, readFrom, after, entriesOf, logOf, rejected, ended, framed, run, initial}
-use Rattle.session.specs.SessionLaws.{read-first, read-none, entry-length, end-length}
+use Rattle.properties.specs.SessionLaws.{read-first, read-none, entry-length, end-length}
 
 -- ---- the conditions
 

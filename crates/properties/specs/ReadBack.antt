@@ -22,9 +22,9 @@ use Rattle.model.specs.Refusal.{noSuchAnswer}
 use Rattle.model.specs.Sane.{Good}
 use Rattle.model.specs.Session.{startOf, countOf, logged, after, entriesOf, endOf, logOf, initial}
 use Rattle.model.specs.Single.{apply}
-use Rattle.log.specs.Written.{responseOf, written-valid, written-answer, written-none, written-card, count-is}
-use Rattle.session.specs.SessionLaws.{Logs, decode-logs, Readings, readings, end-good, entries-length, entries-fit}
-use Rattle.session.specs.Accepted.{Framed, framed-well, card-good, Accepts}
+use Rattle.properties.specs.Written.{responseOf, written-valid, written-answer, written-none, written-card, count-is}
+use Rattle.properties.specs.SessionLaws.{Logs, decode-logs, Readings, readings, end-good, entries-length, entries-fit}
+use Rattle.properties.specs.Accepted.{Framed, framed-well, card-good, Accepts}
 
 -- ---- the card and the state that a list of commands has reached before command k, and that command
 

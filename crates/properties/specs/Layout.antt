@@ -13,8 +13,8 @@ use lib.Seq.{drop-cons, drop-drop, take-add, length-take-le, getD-take, getD-dro
 use Rattle.model.specs.Lists.{at, Bytes, and-left, and-right}
 use Rattle.model.specs.Numbers.{bytesOf, bytes-number}
 use Rattle.model.specs.Log.{Entry, entryBytes, entriesBytes, logTrailer, AllFit, LaidOut, countOf, offsetOf, lengthAt, nextEntry, entryOk, entriesOk, trailerOk, valid}
-use Rattle.log.specs.LogLaws.{Entered, entered, Trailed, trailed}
-use Rattle.log.specs.Written.{written-valid}
+use Rattle.properties.specs.LogLaws.{Entered, entered, Trailed, trailed}
+use Rattle.properties.specs.Written.{written-valid}
 
 -- the entry at a place, and n entries from a place on
 abbrev entryAt : List ℕ → ℕ → Entry

@@ -13,7 +13,7 @@ use Rattle.model.specs.Lists.{at, and-right}
 use Rattle.model.specs.Numbers.{bytesOf, numberAt, number-append, number-bytes}
 use Rattle.model.specs.Log.{Entry, entryBytes, entriesBytes, logTrailer, lengthFits, AllFit, LaidOut, countOf, offsetOf, lengthAt, nextEntry, entryOk, entriesOk, valid, entryPlace, find, missing, answerIn}
 use Rattle.model.specs.Refusal.{noSuchAnswer}
-use Rattle.log.specs.LogLaws.{entry-well, Trailed, trailer-well}
+use Rattle.properties.specs.LogLaws.{entry-well, Trailed, trailer-well}
 
 -- ---- lengths
 

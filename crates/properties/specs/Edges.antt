@@ -13,7 +13,7 @@ use Rattle.model.specs.Numbers.{bytesOf, number-append}
 use Rattle.model.specs.Refusal.{sessionLength}
 use Rattle.model.specs.Session.{cardOf, startOf, countOf, frame, rejected, run}
 use Rattle.model.specs.Single.{isFuseByte}
-use Rattle.session.specs.Accepted.{well-framed, accepting, run-accepted}
+use Rattle.properties.specs.Accepted.{well-framed, accepting, run-accepted}
 
 pub short : (s space : List ℕ) → length s < 2185 → run s space ≡ rejected sessionLength space
 unfolding run frame

@@ -17,7 +17,7 @@ use Rattle.model.specs.Record.{recordLength, decode}
 use Rattle.model.specs.Refusal.{sessionLength, sessionTrailer, startOutOfRange, tooManyRecords, fuseByte}
 use Rattle.model.specs.Session.{startOf, countOf, wrongLength, wrongTrailer, wrongStart, wrongCount, wrongFuses, frame, stopped, onDecoded, more, readFrom}
 use Rattle.secrecy.specs.Agree.{AgreeOutside}
-use Rattle.session.specs.AsCalls.{callOf, callsFrom}
+use Rattle.properties.specs.AsCalls.{callOf, callsFrom}
 
 -- 2 to 5
 abbrev rest : List ℕ → ℕ

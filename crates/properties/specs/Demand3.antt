@@ -23,10 +23,10 @@ use Rattle.secrecy.specs.Secret.{Sealed, register, inZone, inZoneOrPasswords, P
 use Rattle.secrecy.specs.ReadPassword as read
 use Rattle.secrecy.specs.Authentication as authentication
 use Rattle.secrecy.specs.Demand3 as calls
-use Rattle.session.specs.SessionLaws.{Every, end-length, entries-long}
-use Rattle.session.specs.Accepted.{Accepts, framed-well, card-good, accepting}
-use Rattle.session.specs.AsCalls.{callsFrom, entriesFrom, Same, as-calls}
-use Rattle.session.specs.Alike.{frame-same, read-same, calls-same, start-same, count-same}
+use Rattle.properties.specs.SessionLaws.{Every, end-length, entries-long}
+use Rattle.properties.specs.Accepted.{Accepts, framed-well, card-good, accepting}
+use Rattle.properties.specs.AsCalls.{callsFrom, entriesFrom, Same, as-calls}
+use Rattle.properties.specs.Alike.{frame-same, read-same, calls-same, start-same, count-same}
 
 -- ---- the statement
 

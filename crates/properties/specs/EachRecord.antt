@@ -19,10 +19,10 @@ use Rattle.model.specs.RecordLaws.{Fields, accepted, decode-front}
 use Rattle.model.specs.Sane.{Good, check-good, good-after}
 use Rattle.model.specs.Session.{startOf, countOf, readFrom, all, after, logOf, initial}
 use Rattle.model.specs.Single.{check, apply, command}
-use Rattle.session.specs.SessionLaws.{Every, read-first}
-use Rattle.session.specs.Conditions.{placePast}
-use Rattle.session.specs.Accepted.{Accepts, framed-well, card-good}
-use Rattle.session.specs.ReadBack.{reached, commandAt, all-fields, log-answer}
+use Rattle.properties.specs.SessionLaws.{Every, read-first}
+use Rattle.properties.specs.Conditions.{placePast}
+use Rattle.properties.specs.Accepted.{Accepts, framed-well, card-good}
+use Rattle.properties.specs.ReadBack.{reached, commandAt, all-fields, log-answer}
 
 -- the bytes of the record at a place
 abbrev pub recordAt : List ℕ → ℕ → List ℕ

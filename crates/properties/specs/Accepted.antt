@@ -18,7 +18,7 @@ use Rattle.model.specs.Refusal.{bytesLeft, noSpace}
 use Rattle.model.specs.Sane.{Good}
 use Rattle.model.specs.Session.{cardOf, startOf, countOf, wrongLength, wrongTrailer, wrongStart, wrongCount, wrongFuses, frame, Read, stopped, all, onDecoded, more, readFrom, logOf, Ran, rejected, written, ended, framed, run}
 use Rattle.model.specs.Single.{isFuseByte}
-use Rattle.session.specs.SessionLaws.{refusal-nonzero}
+use Rattle.properties.specs.SessionLaws.{refusal-nonzero}
 
 -- ---- the frame
 

@@ -22,8 +22,8 @@ use Rattle.model.specs.Sane.{Good, check-good, good-after}
 use Rattle.model.specs.Session.{readFrom, all, kindOf, logged, after, entriesOf, endOf}
 use Rattle.model.specs.Single.{check, apply, command, replies, final}
 use Rattle.secrecy.specs.TwoRuns.{Along}
-use Rattle.session.specs.SessionLaws.{Every, read-first, read-none}
-use Rattle.session.specs.Conditions.{responseLength, decode-answer}
+use Rattle.properties.specs.SessionLaws.{Every, read-first, read-none}
+use Rattle.properties.specs.Conditions.{responseLength, decode-answer}
 
 abbrev pub callOf : List ℕ → Call
 callOf part = calling (take (recordLength part) part) (replicate (responseLength part) 0)

@@ -1,0 +1,12 @@
+pub mod LogLaws
+pub mod Written
+pub mod Layout
+pub mod SessionLaws
+pub mod Accepted
+pub mod Conditions
+pub mod ReadBack
+pub mod EachRecord
+pub mod AsCalls
+pub mod Alike
+pub mod Demand3
+pub mod Edges

@@ -1,0 +1,1 @@
+// Theorems about logs and sessions, over the model's definitions alone. They are in specs/.
