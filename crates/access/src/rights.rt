@@ -5,6 +5,7 @@ ghost use Prim.Native.Nat.{_+_, _<_};
 ghost use Rattle.model.specs.Access.{met, zoneReads, zoneWrites, zoneReadable, zoneWritable, areaOf, stageOf};
 ghost use Rattle.model.specs.Access as model;
 ghost use Rattle.model.specs.Single.{isFuseByte};
+ghost use Rattle.access.specs.Column.{columnOf, columnAllows};
 ghost use Rattle.access.specs.State.{activeOf, volatileOf};
 use crate::register;
 use crate::volatile::Active;
@@ -32,6 +33,9 @@ const PERMISSIONS: [[u8; 8]; 7] = [
     [FREE, FREE, SC, SC, SC, SC, WP, WP],
     [FREE, FREE, FREE, SC, FREE, SC, FREE, WP],
 ];
+
+// The areas below $40, a hexadecimal digit for every four addresses: the last digit is that of $00-$03.
+const LOWER_AREAS: u64 = 0x4433_2222_2222_1000;
 
 // What is needed is given.
 fn is_met(needed: bool, given: bool) -> bool
@@ -119,20 +123,9 @@ pub fn zone_writable(fuses: u8, register: u8, state: Volatile) -> bool
 pub fn area(address: u8) -> u8
     ensures { λ r. ⌜ r ≡ areaOf address ⌝ }
 {
-    if address < 12 {
-        return 0;
-    }
-    if address < 16 {
-        return 1;
-    }
-    if address < 48 {
-        return 2;
-    }
-    if address < 56 {
-        return 3;
-    }
     if address < 64 {
-        return 4;
+        let digits = LOWER_AREAS >> (address / 4 * 4);
+        return (digits % 16) as u8;
     }
     if address % 4 == 0 {
         return 6;
@@ -156,14 +149,23 @@ pub fn stage(fuses: u8) -> u8
     3
 }
 
-// The entry of an area at a stage: write is 0 for reading and 1 for writing.
-fn permission(area: u8, stage: u8, write: u8) -> u8
-    requires { ⌜ (area < 7) × (stage < 4) × (write < 2) ⌝ }
-    ensures { λ r. ⌜ r ≡ model.permission area stage write ⌝ }
+// helper: the codes of the seven areas at a fuse byte's stage, for reading (write 0) or writing (write 1).
+// Each use of the table copies it, so a command makes its column once.
+pub fn column(write: u8, fuses: u8) -> [u8; 7]
+    requires { ⌜ write < 2 ⌝ }
+    ensures { λ r. ⌜ r ≡ columnOf write fuses ⌝ }
 {
-    let row = area as usize;
-    let column = stage as usize * 2 + write as usize;
-    PERMISSIONS[row][column]
+    let rows = PERMISSIONS;
+    let k = stage(fuses) as usize * 2 + write as usize;
+    [
+        rows[0][k],
+        rows[1][k],
+        rows[2][k],
+        rows[3][k],
+        rows[4][k],
+        rows[5][k],
+        rows[6][k],
+    ]
 }
 
 // Whether a code lets through, for a byte of a password set.
@@ -192,14 +194,13 @@ fn set_of(address: u8) -> PwSet
     PwSet((address - 64) / 8 % 8)
 }
 
-// helper: whether a configuration address may be read (write 0) or written (write 1).
-pub fn configuration_allows(write: u8, fuses: u8, address: u8, active: Active) -> bool
-    requires { ⌜ write < 2 ⌝ }
-    ensures { λ r. ⌜ r ≡ model.configurationAllows write fuses address (activeOf active) ⌝ }
+// Whether a configuration address may be reached, by the codes of a column.
+pub fn configuration_allows(codes: &[u8; 7], address: u8, active: Active) -> bool
+    ensures { λ r. ⌜ r ≡ columnAllows (now (codes .entry)) address (activeOf active) ⌝ }
 {
-    let code = permission(area(address), stage(fuses), write);
+    let area = area(address) as usize;
     let set = set_of(address);
-    permits(code, set, active)
+    permits(codes[area], set, active)
 }
 
 // F is 7, 6, 4 or 0.

@@ -1,21 +1,14 @@
 // Listings: a session is run, and what an examiner reads of its log is written as text.
 ghost use mathlib.Core.Path.{_≡_};
-ghost use Prim.Native.Nat.{min};
 ghost use Rattle.listing.specs.Listing as model;
 use crate::lines::put_log;
 use crate::lines::put_refusal;
 use command::Outcome;
+use memory::copy::least;
 use session::run;
 
 pub mod lines;
 pub mod text;
-
-// The lesser of two numbers.
-fn least(a: usize, b: usize) -> usize
-    ensures { λ r. ⌜ r ≡ min a b ⌝ }
-{
-    if a < b { a } else { b }
-}
 
 // A session run in a log space, and its listing. What is given back says how much of the listing stands in the text space.
 pub fn list(session: &[u8], log: &mut [u8], text: &mut [u8]) -> usize

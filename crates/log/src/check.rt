@@ -60,7 +60,7 @@ fn kept(here: bool, at: usize, place: usize) -> usize
     place
 }
 
-// One pass over count entries from the front up to end, which keeps the place of the entry with a number.
+// helper: one pass over count entries from the front up to end, which keeps the place of the entry with a number.
 pub fn scan(log: &[u8], count: usize, end: usize, number: usize) -> Entries
     requires { ⌜ end + 8 ≤ length (now log) ⌝ }
     ensures { λ r. ⌜ Scanned (now (log .entry)) count end number (r .ok) (r .place) ⌝ }

@@ -5,21 +5,22 @@ ghost use mathlib.Core.List.{_++_};
 ghost use Prim.Native.Nat.{_+_, _<_, _≤_};
 ghost use lib.ListN.{length, drop};
 ghost use Rattle.model.specs.Lists.{at};
-ghost use Rattle.model.specs.Access.{configurationAllows};
 ghost use Rattle.model.specs.Command.{readConfiguration, writeConfiguration};
 ghost use Rattle.model.specs.Single.{apply};
+ghost use Rattle.access.specs.Column.{columnAllows};
 ghost use Rattle.access.specs.State.{activeOf, volatileOf};
 use crate::page;
+use access::rights::column;
 use access::rights::configuration_allows;
 use access::volatile::Active;
 use access::volatile::Volatile;
 
 // The byte at a configuration address as it is answered: $00 where it may not be read.
-fn shown(card: &[u8], fuses: u8, active: Active, address: u8) -> u8
+fn shown(card: &[u8], codes: &[u8; 7], active: Active, address: u8) -> u8
     requires { ⌜ (length (now card) ≡ 2177) × (address < 128) ⌝ }
-    ensures { λ r. ⌜ r ≡ cond (configurationAllows 0 fuses address (activeOf active)) (at (now (card .entry)) (2048 + address)) 0 ⌝ }
+    ensures { λ r. ⌜ r ≡ cond (columnAllows (now (codes .entry)) address (activeOf active)) (at (now (card .entry)) (2048 + address)) 0 ⌝ }
 {
-    if configuration_allows(0, fuses, address, active) {
+    if configuration_allows(codes, address, active) {
         return card[2048 + address as usize];
     }
     0
@@ -36,11 +37,11 @@ pub fn read_configuration(
     requires { ⌜ (length (now card) ≡ 2177) × (address + count ≤ 128) × (count ≤ length (now response)) ⌝ }
     ensures { λ _. ⌜ now (response .exit) ≡ apply (now (card .entry)) (volatileOf state) (readConfiguration address count) .report .answer ++ drop count (now (response .entry)) ⌝ }
 {
-    let fuses = card[2176];
+    let codes = column(0, card[2176]);
     let active = state.active;
     let mut i = 0;
     while i < count {
-        response[i] = shown(card, fuses, active, address + i as u8);
+        response[i] = shown(card, &codes, active, address + i as u8);
         i += 1;
     }
 }
@@ -50,11 +51,11 @@ pub fn write_configuration(card: &mut [u8], state: Volatile, address: u8, bytes:
     requires { ⌜ (length (now card) ≡ 2177) × (address < 128) ⌝ }
     ensures { λ _. ⌜ now (card .exit) ≡ apply (now (card .entry)) (volatileOf state) (writeConfiguration address (now (bytes .entry))) .card ⌝ }
 {
-    let fuses = card[2176];
+    let codes = column(1, card[2176]);
     let first = address / 16 * 16;
     let base = 2048 + first as usize;
     let end = base + 16;
     let low = address as usize % 16;
     let active = state.active;
-    page::store_allowed(&mut card[base..end], first, low, bytes, fuses, active);
+    page::store_allowed(&mut card[base..end], first, low, bytes, &codes, active);
 }

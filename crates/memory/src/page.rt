@@ -4,8 +4,8 @@ ghost use mathlib.Core.Bool.{cond};
 ghost use Prim.Native.Nat.{_+_, _%_, _<_};
 ghost use lib.ListN.{length};
 ghost use Rattle.model.specs.Lists.{stores};
-ghost use Rattle.model.specs.Access.{configurationAllows};
 ghost use Rattle.memory.specs.Page.{mergedOf, allowedOf};
+ghost use Rattle.access.specs.Column.{columnAllows};
 ghost use Rattle.access.specs.State.{activeOf};
 use access::rights::configuration_allows;
 use access::volatile::Active;
@@ -35,10 +35,10 @@ pub fn store(page: &mut [u8], low: usize, bytes: &[u8], pgo: bool)
 }
 
 // What a byte of the configuration holds after a write: the old one where it may not be written.
-fn allowed(fuses: u8, address: u8, active: Active, old: u8, new: u8) -> u8
-    ensures { λ r. ⌜ r ≡ cond (configurationAllows 1 fuses address (activeOf active)) new old ⌝ }
+fn allowed(codes: &[u8; 7], address: u8, active: Active, old: u8, new: u8) -> u8
+    ensures { λ r. ⌜ r ≡ cond (columnAllows (now (codes .entry)) address (activeOf active)) new old ⌝ }
 {
-    if configuration_allows(1, fuses, address, active) {
+    if configuration_allows(codes, address, active) {
         return new;
     }
     old
@@ -50,17 +50,17 @@ pub fn store_allowed(
     first: u8,
     low: usize,
     bytes: &[u8],
-    fuses: u8,
+    codes: &[u8; 7],
     active: Active,
 )
     requires { ⌜ (length (now page) ≡ 16) × (low < 16) × (first < 128) ⌝ }
-    ensures { λ _. ⌜ now (page .exit) ≡ stores (allowedOf fuses first (activeOf active)) (λ k. (low + k) % 16) (now (bytes .entry)) 0 (now (page .entry)) ⌝ }
+    ensures { λ _. ⌜ now (page .exit) ≡ stores (allowedOf (now (codes .entry)) first (activeOf active)) (λ k. (low + k) % 16) (now (bytes .entry)) 0 (now (page .entry)) ⌝ }
 {
     let mut at = low;
     let mut i = 0;
     while i < bytes.len() {
         let address = first + at as u8;
-        page[at] = allowed(fuses, address, active, page[at], bytes[i]);
+        page[at] = allowed(codes, address, active, page[at], bytes[i]);
         at = (at + 1) % 16;
         i += 1;
     }

@@ -6,7 +6,7 @@ ghost use lib.ListN.{length, drop};
 ghost use Rattle.model.specs.Command.{reset};
 ghost use Rattle.model.specs.Single.{apply};
 ghost use Rattle.access.specs.State.{volatileOf};
-use crate::reversal::reversed;
+use crate::reversal::reverse;
 use access::volatile::Active;
 use access::volatile::Authentication;
 use access::volatile::Volatile;
@@ -19,11 +19,7 @@ pub fn answer_to_reset(card: &[u8], state: Volatile, response: &mut [u8]) -> Vol
     ensures state { λ r. ⌜ volatileOf r ≡ apply (now (card .entry)) (volatileOf state) reset .report .state ⌝ }
     ensures answer { λ r. ⌜ now (response .exit) ≡ apply (now (card .entry)) (volatileOf state) reset .report .answer ++ drop 4 (now (response .entry)) ⌝ }
 {
-    let mut i = 0;
-    while i < 4 {
-        response[i] = reversed(card[2048 + i]);
-        i += 1;
-    }
+    reverse(card, 2048, 4, response);
     let unlocked = activating(state, Active::None);
     authenticating(unlocked, Authentication::Idle)
 }

@@ -1,6 +1,10 @@
 // The reversal of a byte's bits.
 ghost use mathlib.Core.Path.{_≡_};
-ghost use Rattle.model.specs.Bits as model;
+ghost use mathlib.Core.List.{_++_};
+ghost use Prim.Native.Nat.{_+_, _≤_};
+ghost use lib.ListN.{length, drop};
+ghost use Rattle.model.specs.Lists.{at, tab};
+ghost use Rattle.model.specs.Bits.{reversed};
 
 // Entry b is byte b with its bits in the other order.
 const REVERSED: [u8; 256] = [
@@ -262,9 +266,17 @@ const REVERSED: [u8; 256] = [
     255,
 ];
 
-pub fn reversed(byte: u8) -> u8
-    ensures { λ r. ⌜ r ≡ model.reversed byte ⌝ }
+// helper: count bytes of one slice from a place on, each reversed, at the front of another.
+// Each use of the table copies it, so it is named once.
+pub fn reverse(from: &[u8], start: usize, count: usize, to: &mut [u8])
+    requires { ⌜ (start + count ≤ length (now from)) × (count ≤ length (now to)) ⌝ }
+    ensures { λ _. ⌜ now (to .exit) ≡ tab (λ k. reversed (at (now (from .entry)) (start + k))) count ++ drop count (now (to .entry)) ⌝ }
 {
-    let i = byte as usize;
-    REVERSED[i]
+    let table = REVERSED;
+    let mut i = 0;
+    while i < count {
+        let byte = from[start + i] as usize;
+        to[i] = table[byte];
+        i += 1;
+    }
 }

@@ -2,7 +2,7 @@
 ghost use mathlib.Core.Path.{_≡_};
 ghost use mathlib.Core.Bool.{cond};
 ghost use mathlib.Core.List.{_++_};
-ghost use Prim.Native.Nat.{_+_, _%_, _<_, _≤_, min};
+ghost use Prim.Native.Nat.{_+_, _%_, _<_, _≤_};
 ghost use lib.ListN.{length, drop};
 ghost use Rattle.model.specs.Lists.{at, tab};
 ghost use Rattle.model.specs.Command.{readZone, writeZone};
@@ -11,21 +11,12 @@ ghost use Rattle.memory.specs.Page.{mergesOf};
 ghost use Rattle.access.specs.State.{volatileOf};
 use crate::copy::clear;
 use crate::copy::copy;
+use crate::copy::least;
 use crate::page;
 use access::register;
 use access::rights::zone_readable;
 use access::rights::zone_writable;
 use access::volatile::Volatile;
-
-// The lesser of two numbers.
-fn least(a: usize, b: usize) -> usize
-    ensures { λ r. ⌜ r ≡ min a b ⌝ }
-{
-    if a < b {
-        return a;
-    }
-    b
-}
 
 // count bytes of the 256 from base on, starting at the address and going on at the first past the last; $00 for each where the
 // zone may not be read.

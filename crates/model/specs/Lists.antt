@@ -8,7 +8,7 @@ use native.Mathlib.Numerals.{add-one}
 use native.Mathlib.Omega.{arith}
 use borrow.Author.Tests.{ltb-true, ltb-false, eqb-true, eqb-false, eq-eqb}
 use lib.Dec.{ltb, eqb}
-use lib.ListN.{length, take, drop, getD, set, length-append, length-drop, length-set, List·getD-append}
+use lib.ListN.{length, take, drop, getD, set, length-append, length-drop, List·getD-append}
 use lib.Seq.{getD-set-same, getD-set-other, set-out, getD-at, getD-drop, take-suc}
 
 -- the element at a place
@@ -146,19 +146,3 @@ sameList-false xs ys ne = go (sameList xs ys) refl
     go : (t : Bool) → sameList xs ys ≡ t → t ≡ false
     go true e = absurd (ne (sameList-true xs ys e))
     go false e = refl
-
-pub length-stores : (rule : ℕ → ℕ → ℕ → ℕ) (cell : ℕ → ℕ) (xs : List ℕ) (k : ℕ) (c : List ℕ)
-    → length (stores rule cell xs k c) ≡ length c
-unfolding stores
-length-stores rule cell [] k c = refl
-length-stores rule cell (x ∷ xs) k c =
-    length-stores rule cell xs (suc k) (set c (cell k) (rule (cell k) (at c (cell k)) x)) ∙ length-set c (cell k) _
-
--- a place that is no cell, or whose rule keeps what it holds, keeps its element
-pub at-stores : (rule : ℕ → ℕ → ℕ → ℕ) (cell : ℕ → ℕ) (j : ℕ) → ((k old new : ℕ) → cell k ≡ j → rule j old new ≡ old)
-    → (xs : List ℕ) (k : ℕ) (c : List ℕ) → at (stores rule cell xs k c) j ≡ at c j
-unfolding stores
-at-stores rule cell j keeps [] k c = refl
-at-stores rule cell j keeps (x ∷ xs) k c =
-    at-stores rule cell j keeps xs (suc k) (set c (cell k) (rule (cell k) (at c (cell k)) x))
-    ∙ at-set-kept c (cell k) _ j (λ q. ap (λ (i : ℕ). rule i (at c i) x) (sym q) ∙ keeps k (at c j) x (sym q))

@@ -1,18 +1,11 @@
 // Many sessions from standard input, each behind its length in four bytes, and their listings one after another.
-ghost use Prim.Native.Nat.{_≤_, min};
-ghost use mathlib.Core.Path.{_≡_};
+ghost use Prim.Native.Nat.{_≤_};
 ghost use lib.ListN.{length};
 use io::read_full;
 use io::write_all;
 use listing::list;
+use memory::copy::least;
 use record::number::get4;
-
-// The lesser of two numbers.
-fn least(a: usize, b: usize) -> usize
-    ensures { λ r. ⌜ r ≡ min a b ⌝ }
-{
-    if a < b { a } else { b }
-}
 
 // helper: the session between two places.
 fn list_one(input: &[u8], from: usize, to: usize)

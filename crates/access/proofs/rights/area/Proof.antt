@@ -1,37 +1,46 @@
--- Each return by the tests that led to it.
+-- Below $40 each address is computed; from $40 on each return goes by its tests.
+use Prim.Native.Nat.{ℕ, _*_, _/_, _%_, _^_, _≤_, _<_}
+use mathlib.Core.Bool.{cond}
+use mathlib.Core.Path.{_≡_, refl}
+use native.Mathlib.Omega.{arith}
+use borrow.Author.Needs.{needs}
+use borrow.Author.Tests.{le-ltb}
+use lib.Dec.{eqb}
 use Rattle.model.specs.Access.{areaOf}
 use Rattle.model.specs.Loops.{tests}
+use Rattle.model.specs.Tables.{agree-at}
 use Rattle.access.proofs.rights.area.Statement.{statement}
 use Rattle.access.proofs.rights.area.Tie as tie
 
-returns : tie.Need-returns
+lower : (a : ℕ) → a < 64 → 0x4433222222221000 / 2 ^ (a / 4 * 4) % 16 ≡ areaOf a
 unfolding areaOf
-returns c = search tests
+lower = agree-at (λ a. 0x4433222222221000 / 2 ^ (a / 4 * 4) % 16) areaOf 64 refl
+
+upper : (a : ℕ) → 64 ≤ a → areaOf a ≡ cond (eqb (a % 4) 0) 6 5
+unfolding areaOf
+upper a h = rw (le-ltb a 12 (omega arith), le-ltb a 16 (omega arith), le-ltb a 48 (omega arith), le-ltb a 56 (omega arith), le-ltb a 64 h)
+
+mul-digits : tie.Need-mul-digits
+mul-digits c = search needs
+
+cast-digits : tie.Need-cast-digits
+cast-digits c = search needs
+
+shr-digits : tie.Need-shr-digits
+shr-digits c = search needs
+
+cast-result : tie.Need-cast-result
+cast-result c = search needs
+
+returns : tie.Need-returns
+returns c = lower _ (c .if1 .taken)
 
 returns-2 : tie.Need-returns-2
-unfolding areaOf
-returns-2 c = search tests
+returns-2 c = rw (upper _ (c .before .if1 .left)) (search tests)
 
 returns-3 : tie.Need-returns-3
-unfolding areaOf
-returns-3 c = search tests
-
-returns-4 : tie.Need-returns-4
-unfolding areaOf
-returns-4 c = search tests
-
-returns-5 : tie.Need-returns-5
-unfolding areaOf
-returns-5 c = search tests
-
-returns-6 : tie.Need-returns-6
-unfolding areaOf
-returns-6 c = search tests
-
-returns-7 : tie.Need-returns-7
-unfolding areaOf
-returns-7 c = search tests
+returns-3 c = rw (upper _ (c .before .if1 .left)) (search tests)
 
 pub area-spec : {M : Type 1} → statement M
 area-spec =
-    tie.close (tie.spec returns returns-2 returns-3 returns-4 returns-5 returns-6 returns-7)
+    tie.close (tie.spec mul-digits cast-digits shr-digits cast-result returns returns-2 returns-3)

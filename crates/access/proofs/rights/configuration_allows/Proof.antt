@@ -1,20 +1,20 @@
--- The table's entry of the address's area at the fuses' stage, applied to its set.
+-- The code of the address's area, applied to its set.
 use borrow.Author.Needs.{needs}
-use Rattle.model.specs.AccessLaws.{area-below, stage-below}
+use Rattle.model.specs.AccessLaws.{area-below}
 use Rattle.access.proofs.rights.configuration_allows.Statement.{statement}
 use Rattle.access.proofs.rights.configuration_allows.Tie as tie
 
 area-requires : tie.Need-area-requires
 area-requires c κs = search needs
 
-stage-requires : tie.Need-stage-requires
-stage-requires c κs = search needs
-
-permission-requires : tie.Need-permission-requires
-permission-requires c κs = (rw (c .before .area .ensures) (area-below _), rw (c .stage .ensures) (stage-below _), search needs)
+cast-area : tie.Need-cast-area
+cast-area c = search needs
 
 set-of-requires : tie.Need-set-of-requires
 set-of-requires c κs = search needs
+
+element-copy-out-permits : tie.Need-element-copy-out-permits
+element-copy-out-permits c = rw (c .before .area .ensures) (area-below _)
 
 permits-requires : tie.Need-permits-requires
 permits-requires c κs = search needs
@@ -27,8 +27,8 @@ configuration-allows-spec =
     tie.close
     (tie.spec
     area-requires
-    stage-requires
-    permission-requires
+    cast-area
     set-of-requires
+    element-copy-out-permits
     permits-requires
     returns)

@@ -6,23 +6,26 @@ use mathlib.Core.Path.{_≡_}
 use borrow.Author.Needs.{needs}
 use lib.ListN.{length, drop}
 use Rattle.memory.proofs.ConfigurationLaws.{read-configuration}
+use Rattle.access.specs.Column.{columnAllows}
 use Rattle.access.specs.State.{activeOf}
-use Rattle.model.specs.Access.{configurationAllows}
 use Rattle.model.specs.Lists.{at, tab}
 use Rattle.model.specs.Loops.{tab-start, tab-next, tab-done}
 use Rattle.memory.proofs.configuration.read_configuration.Statement.{statement}
 use Rattle.memory.proofs.configuration.read_configuration.Tie as tie
 
 abbrev Inv-loop : tie.InvT-loop
-Inv-loop card address count response₀ fuses active i₀ response i =
+Inv-loop card address count response₀ codes active i₀ response i =
     (i ≤ count) × (length response ≡ length response₀)
-    × (response ≡ tab (λ k. cond (configurationAllows 0 fuses (address + k) (activeOf active)) (at card (2048 + (address + k))) 0) i ++ drop i response₀)
+    × (response ≡ tab (λ k. cond (columnAllows codes (address + k) (activeOf active)) (at card (2048 + (address + k))) 0) i ++ drop i response₀)
 
 abbrev μ-loop : tie.MeasureT-loop
-μ-loop card address count response₀ fuses active i₀ response i = count - i
+μ-loop card address count response₀ codes active i₀ response i = count - i
 
-shared-slice-read-fuses : tie.Need-shared-slice-read-fuses Inv-loop μ-loop
-shared-slice-read-fuses c = search needs
+shared-slice-read-column : tie.Need-shared-slice-read-column Inv-loop μ-loop
+shared-slice-read-column c = search needs
+
+column-requires : tie.Need-column-requires Inv-loop μ-loop
+column-requires c κs = search needs
 
 loop-holds : tie.Need-loop-holds Inv-loop μ-loop
 loop-holds c = search (needs, tab-start)
@@ -52,7 +55,9 @@ same-length : tie.Need-same-length Inv-loop μ-loop
 same-length c = search needs
 
 returns : tie.Need-returns Inv-loop μ-loop
-returns c = let h : _ ≤ 128 = c .before .before .before .before .before .pre .1 in rw (read-configuration _ _ _ _ h) (search tab-done)
+returns c =
+    let h : _ ≤ 128 = c .before .before .before .before .before .before .pre .1 in
+    rw (read-configuration _ _ _ _ _ (c .before .before .column .ensures) h) (search tab-done)
 
 pub read-configuration-spec : {M : Type 1} → statement M
 read-configuration-spec =
@@ -60,7 +65,8 @@ read-configuration-spec =
     (tie.spec
     Inv-loop
     μ-loop
-    shared-slice-read-fuses
+    shared-slice-read-column
+    column-requires
     loop-holds
     cast-shown
     add-shown

@@ -5,8 +5,11 @@ use Rattle.memory.proofs.ConfigurationLaws.{write-configuration}
 use Rattle.memory.proofs.configuration.write_configuration.Statement.{statement}
 use Rattle.memory.proofs.configuration.write_configuration.Tie as tie
 
-slice-read-fuses : tie.Need-slice-read-fuses
-slice-read-fuses c = search needs
+slice-read-column : tie.Need-slice-read-column
+slice-read-column c = search needs
+
+column-requires : tie.Need-column-requires
+column-requires c κs = search needs
 
 mul-first : tie.Need-mul-first
 mul-first c = search needs
@@ -36,13 +39,16 @@ same-length : tie.Need-same-length
 same-length c = search needs
 
 returns : tie.Need-returns
-returns c = write-configuration _ _ _ _ _ _ _ refl refl (c .before .before .before .before .before .before .before .pre .1) (c .before .before .before .before .before .before .before .pre .0) (c .before .before .store-allowed .ensures)
+returns c =
+    let pre = c .before .before .before .before .before .before .before .before .before .pre in
+    write-configuration _ _ _ _ _ _ _ _ (c .before .before .before .before .before .column .ensures) refl refl (pre .1) (pre .0) (c .before .before .store-allowed .ensures)
 
 pub write-configuration-spec : {M : Type 1} → statement M
 write-configuration-spec =
     tie.close
     (tie.spec
-    slice-read-fuses
+    slice-read-column
+    column-requires
     mul-first
     cast-base
     add-base

@@ -11,12 +11,12 @@ use Rattle.memory.proofs.page.store_allowed.Statement.{statement}
 use Rattle.memory.proofs.page.store_allowed.Tie as tie
 
 abbrev Inv-loop : tie.InvT-loop
-Inv-loop page₀ first low bytes fuses active at₀ i₀ page at i =
+Inv-loop page₀ first low bytes codes active at₀ i₀ page at i =
     (i ≤ length bytes) × (at ≡ (low + i) % 16) × (length page ≡ 16)
-    × (stores (allowedOf fuses first (activeOf active)) (λ k. (low + k) % 16) (drop i bytes) i page ≡ stores (allowedOf fuses first (activeOf active)) (λ k. (low + k) % 16) bytes 0 page₀)
+    × (stores (allowedOf codes first (activeOf active)) (λ k. (low + k) % 16) (drop i bytes) i page ≡ stores (allowedOf codes first (activeOf active)) (λ k. (low + k) % 16) bytes 0 page₀)
 
 abbrev μ-loop : tie.MeasureT-loop
-μ-loop page₀ first low bytes fuses active at₀ i₀ page at i = length bytes - i
+μ-loop page₀ first low bytes codes active at₀ i₀ page at i = length bytes - i
 
 loop-holds : tie.Need-loop-holds Inv-loop μ-loop
 loop-holds c = search needs

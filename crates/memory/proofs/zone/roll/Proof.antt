@@ -1,7 +1,6 @@
 -- What is known when i bytes are answered is `Rolling`.
 use Prim.Native.Nat.{_-_}
 use borrow.Author.Needs.{needs}
-use native.Mathlib.Omega.{arith}
 use Rattle.memory.proofs.RollLaws.{Rolling, rolling-start, rolling-long, rolling-next, rolling-done, not-shown}
 use Rattle.memory.proofs.zone.roll.Statement.{statement}
 use Rattle.memory.proofs.zone.roll.Tie as tie
