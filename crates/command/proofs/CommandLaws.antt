@@ -16,7 +16,7 @@ use Rattle.model.specs.Record.{decode}
 use Rattle.model.specs.RecordLaws.{decode-within, decode-fields}
 use Rattle.model.specs.Sane.{Good, good-check}
 use Rattle.model.specs.Single.{check, apply, admission, command}
-use Rattle.command.specs.Carried.{Ready, Carried}
+use Rattle.carry.specs.Carried.{Ready, Carried}
 
 module _ (c : List ℕ) (s : Volatile) (bytes space : List ℕ) where
   pub call-refused : (n : ℕ) → refused n ≡ admission c s bytes (length space) → record { card = c; reply = refusing n s space } ≡ command c s (calling bytes space)

@@ -6,13 +6,12 @@ ghost use Rattle.access.specs.State.{volatileOf};
 ghost use Rattle.command.specs.Reply.{calledOf};
 use crate::admit::admit;
 use crate::admit::answer_length;
-use crate::carry::carry_out;
 use access::volatile::Volatile;
+use carry::carry_out;
 use record::decoder::Decoded;
 use record::refusal::Refusal;
 
 pub mod admit;
-pub mod carry;
 
 pub enum Outcome {
     Accepted,

@@ -1,5 +1,3 @@
 mod CopyLaws
 mod RollLaws
-mod ConfigurationLaws
-mod ResetLaws
 mod ZoneLaws

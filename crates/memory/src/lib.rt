@@ -1,7 +1,4 @@
-// Reading and writing the card's bytes: zones, the configuration, the answer to reset.
-pub mod configuration;
+// The bytes of the zones, read and written, and runs of bytes.
 pub mod copy;
 pub mod page;
-pub mod reset;
-pub mod reversal;
 pub mod zone;

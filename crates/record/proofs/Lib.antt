@@ -1,2 +1,1 @@
-mod DecoderLaws
-mod ReaderParts
+pub mod DecoderLaws

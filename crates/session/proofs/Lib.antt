@@ -1,3 +1,2 @@
-mod CheckLaws
 mod WriteLaws
 mod RunLaws

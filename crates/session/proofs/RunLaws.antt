@@ -15,7 +15,7 @@ use Rattle.model.specs.Refusal.{bytesLeft, noSpace}
 use Rattle.model.specs.Session.{startOf, countOf, frame, Read, stopped, all, readFrom, initial, logOf, rejected, ended, framed, run}
 use Rattle.properties.specs.SessionLaws.{end-length}
 use Rattle.properties.specs.Accepted.{framed-well, run-accepted}
-use Rattle.session.specs.Check.{entriesTotal, unfit, sized, sizedOf, onFrame, checkOf}
+use Rattle.validate.specs.Check.{entriesTotal, unfit, sized, sizedOf, onFrame, checkOf}
 use Rattle.session.specs.Run.{LogReady, LogWritten}
 use Rattle.session.proofs.WriteLaws.{entries-total}
 

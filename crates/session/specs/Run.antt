@@ -15,7 +15,7 @@ use Rattle.model.specs.Sane.{Good}
 use Rattle.model.specs.Session as model
 use Rattle.model.specs.Volatile.{Volatile, powerUp}
 use Rattle.command.specs.Reply.{outcomeNumber}
-use Rattle.session.specs.Check.{entriesTotal}
+use Rattle.validate.specs.Check.{entriesTotal}
 use Rattle.session.specs.declared.result.Run.{Run}
 
 -- the result with the log space at exit

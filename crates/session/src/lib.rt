@@ -2,14 +2,13 @@
 ghost use mathlib.Core.Path.{_≡_};
 ghost use Rattle.model.specs.Session as model;
 ghost use Rattle.session.specs.Run.{ranOf};
-use crate::check::Checked;
-use crate::check::check;
 use crate::result::Run;
 use crate::write::write_log;
 use command::Outcome;
 use record::refusal::Refusal;
+use validate::Checked;
+use validate::check;
 
-pub mod check;
 pub mod result;
 pub mod write;
 

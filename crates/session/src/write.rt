@@ -8,17 +8,17 @@ ghost use Rattle.record.specs.Record.{commandOf};
 ghost use Rattle.session.specs.Run.{EntryReady, EntryWritten, RecordsReady, RecordsRun, LogReady, LogWritten};
 use access::volatile::Volatile;
 use access::volatile::power_up;
+use carry::carry_out;
 use command::admit::answer_length;
-use command::carry::carry_out;
 use log::write::put_header;
 use log::write::put_trailer;
 use memory::copy::copy;
+use reader::next_at;
+use reader::records_end;
 use record::decoder::Decoded;
 use record::decoder::Record;
 use record::number::get2;
 use record::number::get4;
-use record::reader::next_at;
-use record::reader::records_end;
 
 // The number of a record's kind.
 fn kind_number(record: Record) -> u8

@@ -2,7 +2,7 @@
 use mathlib.Core.Path.{sym, ap, _∙_}
 use native.Mathlib.Omega.{arith}
 use borrow.Author.Needs.{needs}
-use Rattle.session.specs.Check.{checkedOf}
+use Rattle.validate.specs.Check.{checkedOf}
 use Rattle.session.proofs.RunLaws.{run-refused, no-room, log-ready, run-logged}
 use Rattle.session.proofs.run.Statement.{statement}
 use Rattle.session.proofs.run.Tie as tie

@@ -1,0 +1,2 @@
+mod ConfigurationLaws
+mod ResetLaws

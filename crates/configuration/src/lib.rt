@@ -1,0 +1,64 @@
+// The configuration's bytes, read and written by the table of permissions, and the answer to reset.
+ghost use mathlib.Core.Path.{_≡_};
+ghost use mathlib.Core.Bool.{cond};
+ghost use mathlib.Core.List.{_++_};
+ghost use Prim.Native.Nat.{_+_, _<_, _≤_};
+ghost use lib.ListN.{length, drop};
+ghost use Rattle.model.specs.Lists.{at};
+ghost use Rattle.model.specs.Command.{readConfiguration, writeConfiguration};
+ghost use Rattle.model.specs.Single.{apply};
+ghost use Rattle.access.specs.Column.{columnAllows};
+ghost use Rattle.access.specs.State.{activeOf, volatileOf};
+use access::rights::column;
+use access::rights::configuration_allows;
+use access::volatile::Active;
+use access::volatile::Volatile;
+
+pub mod page;
+pub mod reset;
+pub mod reversal;
+
+// The byte at a configuration address as it is answered: $00 where it may not be read.
+fn shown(card: &[u8], codes: &[u8; 7], active: Active, address: u8) -> u8
+    requires { ⌜ (length (now card) ≡ 2177) × (address < 128) ⌝ }
+    ensures { λ r. ⌜ r ≡ cond (columnAllows (now (codes .entry)) address (activeOf active)) (at (now (card .entry)) (2048 + address)) 0 ⌝ }
+{
+    if configuration_allows(codes, address, active) {
+        return card[2048 + address as usize];
+    }
+    0
+}
+
+// helper: read configuration.
+pub fn read_configuration(
+    card: &[u8],
+    state: Volatile,
+    address: u8,
+    count: usize,
+    response: &mut [u8],
+)
+    requires { ⌜ (length (now card) ≡ 2177) × (address + count ≤ 128) × (count ≤ length (now response)) ⌝ }
+    ensures { λ _. ⌜ now (response .exit) ≡ apply (now (card .entry)) (volatileOf state) (readConfiguration address count) .report .answer ++ drop count (now (response .entry)) ⌝ }
+{
+    let codes = column(0, card[2176]);
+    let active = state.active;
+    let mut i = 0;
+    while i < count {
+        response[i] = shown(card, &codes, active, address + i as u8);
+        i += 1;
+    }
+}
+
+// helper: write configuration.
+pub fn write_configuration(card: &mut [u8], state: Volatile, address: u8, bytes: &[u8])
+    requires { ⌜ (length (now card) ≡ 2177) × (address < 128) ⌝ }
+    ensures { λ _. ⌜ now (card .exit) ≡ apply (now (card .entry)) (volatileOf state) (writeConfiguration address (now (bytes .entry))) .card ⌝ }
+{
+    let codes = column(1, card[2176]);
+    let first = address / 16 * 16;
+    let base = 2048 + first as usize;
+    let end = base + 16;
+    let low = address as usize % 16;
+    let active = state.active;
+    page::store_allowed(&mut card[base..end], first, low, bytes, &codes, active);
+}

@@ -1,0 +1,90 @@
+-- What is known while records are left is `Checking`.
+use mathlib.Core.Path.{sym, ap, _∙_}
+use native.Mathlib.Omega.{arith}
+use borrow.Author.Needs.{needs}
+use Rattle.command.specs.Alone.{answer-alone}
+use Rattle.model.specs.Reader.{partAt}
+use Rattle.model.specs.ReaderLaws.{next-within}
+use Rattle.record.specs.Record.{decodedOf}
+use Rattle.validate.proofs.CheckLaws.{Checking, checking-start, checking-refused, checking-next, checking-left, checking-done}
+use Rattle.validate.proofs.check_records.Statement.{statement}
+use Rattle.validate.proofs.check_records.Tie as tie
+
+abbrev Inv-loop : tie.InvT-loop
+Inv-loop session start count at₀ entries₀ left₀ at entries left = Checking session start count at entries left
+
+abbrev μ-loop : tie.MeasureT-loop
+μ-loop session start count at₀ entries₀ left₀ at entries left = left
+
+loop-holds : tie.Need-loop-holds Inv-loop μ-loop
+loop-holds c = checking-start _ _ _
+
+next-at-requires : tie.Need-next-at-requires Inv-loop μ-loop
+next-at-requires c κs = search needs
+
+enum-known-why : tie.Need-enum-known-why Inv-loop μ-loop
+enum-known-why c = search needs
+
+returns : tie.Need-returns Inv-loop μ-loop
+returns c = checking-refused _ _ _ _ _ _ (c .before .before .before .before .before .loop .inv) (c .before .before .before .before .loop-test .taken) _ (sym (ap (decodedOf (partAt (c .before .before .before .before .before .before .before .args .session .now) (c .before .before .before .before .before .loop .at))) (c .before .why .given .1)) ∙ c .before .before .before .next-at .ensures)
+
+enum-known-kind : tie.Need-enum-known-kind Inv-loop μ-loop
+enum-known-kind c = search needs
+
+add-at : tie.Need-add-at Inv-loop μ-loop
+add-at c = let w = next-within (c .before .before .before .before .before .before .before .args .session .now) (c .before .before .before .before .before .loop .at) _ _ (sym (c .before .before .before .next-at .ensures) ∙ ap (decodedOf (partAt (c .before .before .before .before .before .before .before .args .session .now) (c .before .before .before .before .before .loop .at))) (c .before .kind .given .1)) in omega arith
+
+answer-length-requires : tie.Need-answer-length-requires Inv-loop μ-loop
+answer-length-requires c κs = search needs
+
+cast-entries : tie.Need-cast-entries Inv-loop μ-loop
+cast-entries c = search needs
+
+add-entries : tie.Need-add-entries Inv-loop μ-loop
+add-entries c = search needs
+
+add-entries-2 : tie.Need-add-entries-2 Inv-loop μ-loop
+add-entries-2 c = search needs
+
+sub-left : tie.Need-sub-left Inv-loop μ-loop
+sub-left c = search needs
+
+loop-less : tie.Need-loop-less Inv-loop μ-loop
+loop-less c = search needs
+
+loop-again : tie.Need-loop-again Inv-loop μ-loop
+loop-again c = checking-next _ _ _ _ _ _ (c .before .before .before .before .before .before .loop .inv) (c .before .before .before .before .before .loop-test .taken) _ _ _
+    (sym (ap (decodedOf (partAt (c .before .before .before .before .before .before .before .before .args .session .now) (c .before .before .before .before .before .before .loop .at))) (c .before .before .kind .given .1)) ∙ c .before .before .before .before .next-at .ensures)
+    (c .answer-length .ensures ∙ sym (answer-alone (partAt (c .before .before .before .before .before .before .before .before .args .session .now) (c .before .before .before .before .before .before .loop .at)) (c .before .before .kind .given .0 .1 .0) (c .before .before .kind .given .0 .0))) (omega arith)
+
+records-end-requires : tie.Need-records-end-requires Inv-loop μ-loop
+records-end-requires c κs = search needs
+
+returns-2 : tie.Need-returns-2 Inv-loop μ-loop
+returns-2 c = checking-left _ _ _ _ _ _ (c .before .before .before .loop .inv) (search needs) _ (c .before .records-end .ensures) (c .if1 .taken)
+
+returns-3 : tie.Need-returns-3 Inv-loop μ-loop
+returns-3 c = checking-done _ _ _ _ _ _ (c .before .before .before .loop .inv) (search needs) _ (c .before .records-end .ensures) (c .if1 .left)
+
+pub check-records-spec : {M : Type 1} → statement M
+check-records-spec =
+    tie.close
+    (tie.spec
+    Inv-loop
+    μ-loop
+    loop-holds
+    next-at-requires
+    enum-known-why
+    returns
+    enum-known-kind
+    add-at
+    answer-length-requires
+    cast-entries
+    add-entries
+    add-entries-2
+    sub-left
+    loop-less
+    loop-again
+    records-end-requires
+    returns-2
+    returns-3)

@@ -1,0 +1,95 @@
+// A session checked whole before anything runs: 1 to 5, the records in turn, 9.
+ghost use mathlib.Core.Path.{_≡_};
+ghost use Prim.Native.Nat.{_≤_};
+ghost use lib.ListN.{length};
+ghost use Rattle.model.specs.Reader.{recordsEnd};
+ghost use Rattle.model.specs.Session as model;
+ghost use Rattle.command.specs.Reply.{outcomeNumber};
+ghost use Rattle.validate.specs.Check.{checkedOf, sizedOf, checkOf};
+use access::rights::is_fuse_byte;
+use command::Outcome;
+use command::admit::answer_length;
+use reader::next_at;
+use reader::records_end;
+use record::decoder::Decoded;
+use record::number::get2;
+use record::number::get4;
+use record::refusal::Refusal;
+
+// A refusal, or how long the entries of the log will be.
+pub enum Checked {
+    Refused(Refusal),
+    Entries(usize),
+}
+
+// The card, the start and the count.
+pub fn frame(session: &[u8]) -> Outcome
+    ensures { λ r. ⌜ outcomeNumber r ≡ model.frame (now (session .entry)) ⌝ }
+{
+    let length = session.len();
+    if length < 2185 {
+        return Outcome::Refused(Refusal::SessionLength);
+    }
+    if 65536 < length {
+        return Outcome::Refused(Refusal::SessionLength);
+    }
+    if session[length - 2] != 83 {
+        return Outcome::Refused(Refusal::SessionTrailer);
+    }
+    if session[length - 1] != 69 {
+        return Outcome::Refused(Refusal::SessionTrailer);
+    }
+    let start = get4(session, length - 8);
+    if start < 2177 {
+        return Outcome::Refused(Refusal::StartOutOfRange);
+    }
+    if length - 8 < start {
+        return Outcome::Refused(Refusal::StartOutOfRange);
+    }
+    if 4096 < get2(session, length - 4) {
+        return Outcome::Refused(Refusal::TooManyRecords);
+    }
+    if !is_fuse_byte(session[2176]) {
+        return Outcome::Refused(Refusal::FuseByte);
+    }
+    Outcome::Accepted
+}
+
+// helper: count records from start on, which are to end where the trailer begins.
+pub fn check_records(session: &[u8], start: usize, count: usize) -> Checked
+    requires { ⌜ count ≤ 4096 ⌝ }
+    ensures { λ r. ⌜ checkedOf r ≡ sizedOf (recordsEnd (length (now (session .entry)))) (model.readFrom count (now (session .entry)) start) ⌝ }
+{
+    let mut at = start;
+    let mut entries = 0;
+    let mut left = count;
+    while 0 < left {
+        match next_at(session, at) {
+            Decoded::Refused(why) => return Checked::Refused(why),
+            Decoded::Whole(kind, length) => {
+                at += length;
+                entries += 3 + answer_length(kind) as usize;
+                left -= 1;
+            }
+        }
+    }
+    if at != records_end(session) {
+        return Checked::Refused(Refusal::BytesLeft);
+    }
+    Checked::Entries(entries)
+}
+
+// The whole session.
+pub fn check(session: &[u8]) -> Checked
+    ensures { λ r. ⌜ checkedOf r ≡ checkOf (now (session .entry)) ⌝ }
+{
+    if let Outcome::Refused(why) = frame(session) {
+        return Checked::Refused(why);
+    }
+    let length = session.len();
+    check_records(
+        session,
+        get4(session, length - 8),
+        get2(session, length - 4),
+    )
+}
