@@ -6,12 +6,13 @@ top=$(cd "$(dirname "${BASH_SOURCE[0]}")/.." && pwd)
 work=$(mktemp -d)
 trap 'rm -rf "$work"' EXIT
 
-(cd "$top" && rt staticlib exports) >"$work/log" 2>&1 || { tail -n 20 "$work/log" >&2; exit 1; }
 cd "$top/second"
-cargo test --release --offline --quiet
-
 programs=$top/target/second/release
-cargo build --release --offline --quiet --bin sessions --bin listings --bin write-examples
+cargo build --release --offline --quiet --bin sessions --bin listings --bin write-examples &
+building=$!
+(cd "$top" && rt staticlib exports) >"$work/log" 2>&1 || { tail -n 20 "$work/log" >&2; exit 1; }
+wait "$building"
+cargo test --release --offline --quiet
 "$programs/sessions" | cmp - "$top/crates/simulate_all/stdin"
 "$programs/listings" <"$top/crates/simulate_all/stdin" | cmp - "$top/crates/simulate_all/stdout"
 mkdir "$work/examples"
