@@ -1,3 +1,2 @@
-mod PutLaws
 mod LineLaws
 mod ListLaws

@@ -9,12 +9,12 @@ use lib.Seq.{getD-take, getD-drop, length-take-le, drop-drop, take-nil, drop-nil
 use Rattle.model.specs.Lists.{at, and-left, and-right}
 use Rattle.model.specs.Log.{countOf, offsetOf, lengthAt, entryOk, entriesOk, trailerOk, valid}
 use Rattle.properties.specs.LogLaws.{entered, Trailed, trailed}
-use Rattle.listing.specs.Put.{Put}
+use Rattle.text.specs.Put.{Put}
 use Rattle.listing.specs.Ready.{EntriesReady, LogReady}
-use Rattle.listing.specs.Text.{hex, hexes, decimal, line, fusesLine}
-use Rattle.listing.specs.TextLaws.{hexes-length}
+use Rattle.text.specs.Text.{hex, hexes, decimal, line, fusesLine}
+use Rattle.text.specs.TextLaws.{hexes-length}
 use Rattle.listing.specs.Listing.{linesAt, logLines}
-use Rattle.listing.proofs.PutLaws.{put-then}
+use Rattle.text.proofs.PutLaws.{put-then}
 
 -- ---- one line
 

@@ -14,9 +14,9 @@ use Rattle.record.specs.declared.refusal.Refusal.{Refusal}
 use Rattle.properties.specs.Written.{log-length, entries-small}
 use Rattle.properties.specs.Accepted.{Accepts, accepted-run, accepting, run-accepted}
 use Rattle.properties.specs.ReadBack.{laid-out, log-valid}
-use Rattle.listing.specs.Put.{Put}
+use Rattle.text.specs.Put.{Put}
 use Rattle.listing.specs.Ready.{LogReady}
-use Rattle.listing.specs.Text.{refusedLine}
+use Rattle.text.specs.Text.{refusedLine}
 use Rattle.listing.specs.Listing.{listing, listIn, Listed, logLines}
 use Rattle.listing.specs.ListingLaws.{log-listed, listing-length}
 

@@ -1,6 +1,3 @@
-pub mod Text
-pub mod TextLaws
-pub mod Put
 pub mod Listing
 pub mod Ready
 pub mod ListingLaws

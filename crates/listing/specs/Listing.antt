@@ -8,7 +8,7 @@ use Rattle.model.specs.Command.{Command}
 use Rattle.model.specs.Log.{countOf, offsetOf, lengthAt, nextEntry}
 use Rattle.model.specs.Session.{Read, stopped, all, readFrom, entriesOf, endOf, initial, run}
 use Rattle.model.specs.Session as session
-use Rattle.listing.specs.Text.{line, lines, fusesLine, refusedLine}
+use Rattle.text.specs.Text.{line, lines, fusesLine, refusedLine}
 
 -- the commands of a session
 abbrev pub commandsIn : Read → List Command

@@ -11,8 +11,8 @@ use Rattle.model.specs.Session.{startOf, countOf, logOf, run}
 use Rattle.properties.specs.Accepted.{accepted-run}
 use Rattle.properties.specs.Conditions.{Condition, recordConditions, recordsConditions, lastConditions, conditions, first, refusal-is}
 use Rattle.properties.specs.ReadBack.{laid-out}
-use Rattle.listing.specs.Text.{decimal}
-use Rattle.listing.specs.TextLaws.{decimal-few}
+use Rattle.text.specs.Text.{decimal}
+use Rattle.text.specs.TextLaws.{decimal-few}
 use Rattle.listing.specs.Listing.{listing, logLines}
 use Rattle.listing.specs.ListingLaws.{log-listed, listing-length}
 

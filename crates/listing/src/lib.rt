@@ -8,7 +8,6 @@ use memory::copy::least;
 use session::run;
 
 pub mod lines;
-pub mod text;
 
 // A session run in a log space, and its listing. What is given back says how much of the listing stands in the text space.
 pub fn list(session: &[u8], log: &mut [u8], text: &mut [u8]) -> usize

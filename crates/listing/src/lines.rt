@@ -4,19 +4,19 @@ ghost use Prim.Native.Nat.{_+_, _≤_, _<_, _^_};
 ghost use lib.ListN.{length, drop};
 ghost use Rattle.model.specs.Lists as lists;
 ghost use Rattle.record.specs.Refusal.{refusalNumber};
-ghost use Rattle.listing.specs.Put.{Put};
+ghost use Rattle.text.specs.Put.{Put};
 ghost use Rattle.listing.specs.Ready.{EntriesReady, LogReady};
-ghost use Rattle.listing.specs.Text.{line, fusesLine, refusedLine};
+ghost use Rattle.text.specs.Text.{line, fusesLine, refusedLine};
 ghost use Rattle.listing.specs.Listing.{linesAt, logLines};
-use crate::text::put;
-use crate::text::put_all;
-use crate::text::put_decimal;
-use crate::text::put_hex;
-use crate::text::put_hexes;
 use record::number::get2;
 use record::number::get4;
 use record::refusal::Refusal;
 use record::refusal::number;
+use text::put;
+use text::put_all;
+use text::put_decimal;
+use text::put_hex;
+use text::put_hexes;
 
 // helper: the line of an entry of a log.
 fn put_line(text: &mut [u8], at: usize, number: usize, entry: &[u8]) -> usize

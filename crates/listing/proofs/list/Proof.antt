@@ -3,7 +3,7 @@ use borrow.Author.Needs.{needs}
 use lib.Seq.{length-take-le}
 use mathlib.Core.Path.{sym, ap}
 use Rattle.command.specs.Reply.{outcomeNumber}
-use Rattle.listing.proofs.PutLaws.{put-length}
+use Rattle.text.proofs.PutLaws.{put-length}
 use Rattle.listing.proofs.ListLaws.{list-put, refused-listing, within, log-ready, accepted-listing}
 use Rattle.listing.proofs.list.Statement.{statement}
 use Rattle.listing.proofs.list.Tie as tie

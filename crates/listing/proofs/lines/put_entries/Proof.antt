@@ -1,7 +1,7 @@
 -- What is known while entries are left is `Lining`.
 use Prim.Native.Nat.{_-_}
 use borrow.Author.Needs.{needs}
-use Rattle.listing.proofs.PutLaws.{put-length}
+use Rattle.text.proofs.PutLaws.{put-length}
 use Rattle.listing.proofs.LineLaws.{Lining, lining-start, header-within, entry-ends, part-long, line-fits, lining-next, lining-done}
 use Rattle.listing.proofs.lines.put_entries.Statement.{statement}
 use Rattle.listing.proofs.lines.put_entries.Tie as tie

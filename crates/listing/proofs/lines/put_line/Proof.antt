@@ -5,8 +5,8 @@ use lib.ListN.{length, drop}
 use mathlib.Core.List.{List}
 use mathlib.Core.Path.{ap, _∙_}
 use native.Mathlib.Omega.{arith}
-use Rattle.listing.specs.Text.{hexes}
-use Rattle.listing.specs.TextLaws.{hexes-length}
+use Rattle.text.specs.Text.{hexes}
+use Rattle.text.specs.TextLaws.{hexes-length}
 use Rattle.model.specs.Lists as lists
 use Rattle.listing.proofs.LineLaws.{response-part, line-is, line-put}
 use Rattle.listing.proofs.lines.put_line.Statement.{statement}

@@ -1,7 +1,7 @@
 -- The word, the number, the end of the line.
 use borrow.Author.Needs.{needs}
 use native.Mathlib.Omega.{arith}
-use Rattle.listing.specs.TextLaws.{decimal-few}
+use Rattle.text.specs.TextLaws.{decimal-few}
 use Rattle.listing.proofs.LineLaws.{word-put}
 use Rattle.listing.proofs.lines.put_refusal.Statement.{statement}
 use Rattle.listing.proofs.lines.put_refusal.Tie as tie

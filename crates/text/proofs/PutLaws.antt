@@ -7,9 +7,9 @@ use borrow.Author.Tests.{lt-ltb, le-ltb}
 use lib.ListN.{length, take, set, length-append, getD}
 use lib.Seq.{length-sets, set-out, take-suc, length-take-le, take-all}
 use Rattle.model.specs.Numbers.{sets-append}
-use Rattle.listing.specs.Put.{Put}
-use Rattle.listing.specs.Text.{hexDigit, hex, hexes, decimal}
-use Rattle.listing.specs.TextLaws.{hexes-append, hexes-length, decimal-one, decimal-more}
+use Rattle.text.specs.Put.{Put}
+use Rattle.text.specs.Text.{hexDigit, hex, hexes, decimal}
+use Rattle.text.specs.TextLaws.{hexes-append, hexes-length, decimal-one, decimal-more}
 
 -- ---- one byte
 

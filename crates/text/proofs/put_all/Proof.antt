@@ -3,9 +3,9 @@ use Prim.Native.Nat.{_-_}
 use borrow.Author.Needs.{needs}
 use lib.ListN.{length}
 use native.Mathlib.Omega.{arith}
-use Rattle.listing.proofs.PutLaws.{Putting, all-start, all-next, all-place, putting-done, put-length}
-use Rattle.listing.proofs.text.put_all.Statement.{statement}
-use Rattle.listing.proofs.text.put_all.Tie as tie
+use Rattle.text.proofs.PutLaws.{Putting, all-start, all-next, all-place, putting-done, put-length}
+use Rattle.text.proofs.put_all.Statement.{statement}
+use Rattle.text.proofs.put_all.Tie as tie
 
 abbrev Inv-loop : tie.InvT-loop
 Inv-loop text₀ at bytes to₀ i₀ text to i = Putting (λ xs. xs) text₀ at bytes i to text

@@ -1,8 +1,8 @@
 -- A digit or a letter.
 use borrow.Author.Needs.{needs}
-use Rattle.listing.proofs.PutLaws.{digit-small, digit-large}
-use Rattle.listing.proofs.text.hex_digit.Statement.{statement}
-use Rattle.listing.proofs.text.hex_digit.Tie as tie
+use Rattle.text.proofs.PutLaws.{digit-small, digit-large}
+use Rattle.text.proofs.hex_digit.Statement.{statement}
+use Rattle.text.proofs.hex_digit.Tie as tie
 
 add-result : tie.Need-add-result
 add-result c = search needs

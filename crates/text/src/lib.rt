@@ -3,8 +3,8 @@ ghost use Prim.Native.Nat.{_+_, _*_, _<_, _^_};
 ghost use mathlib.Core.Path.{_≡_};
 ghost use mathlib.Core.List.{[], _∷_};
 ghost use lib.ListN.{length};
-ghost use Rattle.listing.specs.Put.{Put};
-ghost use Rattle.listing.specs.Text as model;
+ghost use Rattle.text.specs.Put.{Put};
+ghost use Rattle.text.specs.Text as model;
 
 // helper: one byte.
 pub fn put(text: &mut [u8], at: usize, byte: u8) -> usize

@@ -1,8 +1,8 @@
 -- Beyond the space, or in it.
 use borrow.Author.Needs.{needs}
-use Rattle.listing.proofs.PutLaws.{put-past, put-in}
-use Rattle.listing.proofs.text.put.Statement.{statement}
-use Rattle.listing.proofs.text.put.Tie as tie
+use Rattle.text.proofs.PutLaws.{put-past, put-in}
+use Rattle.text.proofs.put.Statement.{statement}
+use Rattle.text.proofs.put.Tie as tie
 
 add-result : tie.Need-add-result
 add-result c = search needs

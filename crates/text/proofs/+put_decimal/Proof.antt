@@ -4,13 +4,13 @@ use borrow.Author.Needs.{needs}
 use borrow.Fn.Kinds.{In}
 use borrow.Fn.PlainCycle.{Measures, is, falls, and}
 use native.Mathlib.Omega.{arith}
-use Rattle.listing.proofs.PutLaws.{one-digit, last-digit, more-digits, fewer-digits}
-use Rattle.listing.proofs.text.put_decimal.Reads as put-decimal
-use Rattle.listing.proofs.text.put_decimal.Kinds as put-decimal-kinds
-use Rattle.listing.proofs.text.+put_decimal.Lts-put_decimal as put-decimal-lts
-use Rattle.listing.proofs.text.put.Reads as put-reads
-use Rattle.listing.proofs.text.+put_decimal.{statement}
-use Rattle.listing.proofs.text.+put_decimal.Tie.{close}
+use Rattle.text.proofs.PutLaws.{one-digit, last-digit, more-digits, fewer-digits}
+use Rattle.text.proofs.put_decimal.Reads as put-decimal
+use Rattle.text.proofs.put_decimal.Kinds as put-decimal-kinds
+use Rattle.text.proofs.+put_decimal.Lts-put_decimal as put-decimal-lts
+use Rattle.text.proofs.put.Reads as put-reads
+use Rattle.text.proofs.+put_decimal.{statement}
+use Rattle.text.proofs.+put_decimal.Tie.{close}
 
 abbrev μ-put-decimal : Measures 1 put-decimal-kinds.ps ℕ
 μ-put-decimal κs a = a .1 .1 .0

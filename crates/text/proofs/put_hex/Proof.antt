@@ -1,8 +1,8 @@
 -- Three bytes.
 use borrow.Author.Needs.{needs}
-use Rattle.listing.proofs.PutLaws.{put-digits}
-use Rattle.listing.proofs.text.put_hex.Statement.{statement}
-use Rattle.listing.proofs.text.put_hex.Tie as tie
+use Rattle.text.proofs.PutLaws.{put-digits}
+use Rattle.text.proofs.put_hex.Statement.{statement}
+use Rattle.text.proofs.put_hex.Tie as tie
 
 put-requires : tie.Need-put-requires
 put-requires c κs = search needs

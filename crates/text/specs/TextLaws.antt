@@ -8,7 +8,7 @@ use native.Mathlib.Nat.{pow-suc}
 use borrow.Author.Tests.{ltb-false, lt-ltb, le-ltb}
 use lib.Dec.{ltb}
 use lib.ListN.{length, length-append}
-use Rattle.listing.specs.Text.{hex, hexes, digits, decimal, line}
+use Rattle.text.specs.Text.{hex, hexes, digits, decimal, line}
 
 -- as many digits as are enough give the same
 digits-enough : (j k n : ℕ) → n < j → n < k → digits j n ≡ digits k n

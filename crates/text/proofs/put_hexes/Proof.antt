@@ -3,10 +3,10 @@ use Prim.Native.Nat.{_-_}
 use borrow.Author.Needs.{needs}
 use lib.ListN.{length}
 use native.Mathlib.Omega.{arith}
-use Rattle.listing.specs.Text.{hexes}
-use Rattle.listing.proofs.PutLaws.{Putting, hexing-start, hexing-next, hexing-place, putting-done, put-length}
-use Rattle.listing.proofs.text.put_hexes.Statement.{statement}
-use Rattle.listing.proofs.text.put_hexes.Tie as tie
+use Rattle.text.specs.Text.{hexes}
+use Rattle.text.proofs.PutLaws.{Putting, hexing-start, hexing-next, hexing-place, putting-done, put-length}
+use Rattle.text.proofs.put_hexes.Statement.{statement}
+use Rattle.text.proofs.put_hexes.Tie as tie
 
 abbrev Inv-loop : tie.InvT-loop
 Inv-loop text₀ at bytes to₀ i₀ text to i = Putting hexes text₀ at bytes i to text
