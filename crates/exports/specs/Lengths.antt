@@ -1,14 +1,12 @@
 -- How large the numbers in a result can be: a response has at most 256 bytes, a log at most 4096 entries of 259 bytes, a card
 -- and its trailer.
 use Prim.Native.Nat.{ℕ, zero, suc, _+_, _*_, _≤_, _<_}
-use mathlib.Core.Bool.{Bool, true, false, cond, not}
-use mathlib.Core.List.{List, _++_}
-use mathlib.Core.Path.{_≡_, refl, ap, _∙_}
+use mathlib.Core.Bool.{true}
+use mathlib.Core.List.{List}
+use mathlib.Core.Path.{_≡_, refl}
 use native.Mathlib.Nat.{le-of-suc-le-suc}
 use native.Mathlib.Omega.{arith}
-use borrow.Author.Tests.{eqb-true, ltb-false}
-use lib.Dec.{ltb, eqb}
-use lib.ListN.{length, drop}
+use lib.ListN.{length}
 use Rattle.model.specs.Lists.{Bytes, and-left, and-right}
 use Rattle.model.specs.At88sc1608.{at88sc1608}
 use Rattle.model.specs.Call.{Decoded, refused, whole, Call}
@@ -17,15 +15,14 @@ use Rattle.model.specs.CallLaws.{admitted}
 use Rattle.model.specs.Command.{Command}
 use Rattle.model.specs.Effects.{answer-length}
 use Rattle.model.specs.Log.{Entry, lengthAt, nextEntry, entryOk, entriesOk, entryPlace, LaidOut, countOf, offsetOf, trailerOk, valid, find, lies}
-use Rattle.model.specs.Reader.{recordsEnd}
 use Rattle.model.specs.Record.{decode}
-use Rattle.model.specs.Refusal.{bytesLeft, noSpace}
-use Rattle.model.specs.Session.{entriesOf, endOf, initial, logOf, rejected, Read, stopped, all, readFrom, frame, startOf, written, ended, framed, run}
-use Rattle.model.specs.Session as session
+use Rattle.model.specs.Session.{run}
 use Rattle.model.specs.Single.{check, apply, admit, command}
 use Rattle.model.specs.Volatile.{Volatile}
 use Rattle.properties.specs.LogLaws.{entered, trailed, answered}
 use Rattle.properties.specs.Written.{fits-small, entries-small, log-length}
+use Rattle.properties.specs.Accepted.{accepted-run, run-accepted}
+use Rattle.properties.specs.Refused.{refused-run}
 use Rattle.properties.specs.ReadBack.{laid-out}
 use Rattle.properties.specs.SessionLaws.{decode-logs}
 
@@ -77,26 +74,10 @@ log-small es card l w =
 
 -- of a session of bytes
 pub run-small : (s space : List ℕ) → Bytes s → run s space .length ≤ 259 * 4096 + 2185
-unfolding run
-run-small s space b = on-frame (frame s) refl
+run-small s space b = go (run s space .refusal) refl
   where
-    on-room : (ks : List Command) (t : Bool) → frame s ≡ 0 → readFrom (session.countOf s) s (startOf s) ≡ all ks (recordsEnd (length s))
-        → ltb (length space) (length (logOf s ks)) ≡ t
-        → cond t (rejected noSpace space) (record { refusal = 0; length = length (logOf s ks); space = logOf s ks ++ drop (length (logOf s ks)) space }) .length ≤ 259 * 4096 + 2185
-    on-room ks true f r q = omega arith
-    on-room ks false f r q =
-        log-small (entriesOf ks (initial s)) (endOf ks (initial s) .card) (logOf s ks)
-        (laid-out s space ks b (record { frames = f; reads = r; room = ltb-false _ _ q }))
-
-    on-end : (ks : List Command) (i : ℕ) (t : Bool) → frame s ≡ 0 → readFrom (session.countOf s) s (startOf s) ≡ all ks i → eqb i (recordsEnd (length s)) ≡ t
-        → cond (not t) (rejected bytesLeft space) (written (logOf s ks) space) .length ≤ 259 * 4096 + 2185
-    on-end ks i true f r q = on-room ks (ltb (length space) (length (logOf s ks))) f (r ∙ ap (all ks) (eqb-true i (recordsEnd (length s)) q)) refl
-    on-end ks i false f r q = omega arith
-
-    on-read : (x : Read) → frame s ≡ 0 → readFrom (session.countOf s) s (startOf s) ≡ x → ended s space x .length ≤ 259 * 4096 + 2185
-    on-read (stopped n) f r = omega arith
-    on-read (all ks i) f r = on-end ks i (eqb i (recordsEnd (length s))) f r refl
-
-    on-frame : (n : ℕ) → frame s ≡ n → framed s space n .length ≤ 259 * 4096 + 2185
-    on-frame zero f = on-read (readFrom (session.countOf s) s (startOf s)) f refl
-    on-frame (suc n) f = omega arith
+    go : (n : ℕ) → run s space .refusal ≡ n → run s space .length ≤ 259 * 4096 + 2185
+    go zero e =
+        let a = accepted-run s space e in
+        rw (run-accepted s space (a .0) (a .1)) (log-small _ _ _ (laid-out s space (a .0) b (a .1)))
+    go (suc n) e = rw (refused-run s space n e) (omega arith)

@@ -3,6 +3,7 @@ pub mod Written
 pub mod Layout
 pub mod SessionLaws
 pub mod Accepted
+pub mod Refused
 pub mod Conditions
 pub mod ReadBack
 pub mod EachRecord
