@@ -1,7 +1,7 @@
 #!/usr/bin/env bash
-# Wrong models that a theorem of another crate must refuse. Each tests/across/NAME.edit changes crate `model`; the model without
-# its computed cases must still be proved, and the crate that the edit names must not be.
-# Lines of an edit: 'refused-by: CRATE', 'file: PATH' below crates/model, and 'old:' and 'new:' pairs, each old text unique.
+# Wrong models that a theorem of another crate must refuse. Each tests/across/NAME.edit changes crate `model` (and where a law has to
+# follow, crate `laws`); the model without its computed tables must still be proved, and the crate that the edit names must not be.
+# Lines of an edit: 'refused-by: CRATE', 'file: PATH' below crates/, and 'old:' and 'new:' pairs, each old text unique.
 set -euo pipefail
 top=$(cd "$(dirname "${BASH_SOURCE[0]}")/.." && pwd)
 work=$(mktemp -d)
@@ -24,13 +24,19 @@ try() { # EDIT
     name=$(basename "$1" .edit) room=$work/$(basename "$1" .edit) by='' file='' old=''
     mkdir -p "$room/crates"
     by=$(sed -n 's/^refused-by: //p' "$1")
-    cp -R "$top/crates/model" "$top/crates/$by" "$room/crates/"
-    printf 'model:\n%s: model\n' "$by" >"$room/crates.txt"
-    rm "$room/crates/model/specs/Cases.antt"
-    replace "$room/crates/model/specs/Lib.antt" $'pub mod Cases\n' ''
+    cp -R "$top/crates/model" "$top/crates/laws" "$room/crates/"
+    printf 'model:\nlaws: model\n' >"$room/crates.txt"
+    if [ "$by" != laws ]; then
+        cp -R "$top/crates/$by" "$room/crates/"
+        printf '%s: model laws\n' "$by" >>"$room/crates.txt"
+    fi
+    for table in Cases Mistakes; do
+        rm "$room/crates/model/specs/$table.antt"
+        replace "$room/crates/model/specs/Lib.antt" "pub mod $table"$'\n' ''
+    done
     while IFS= read -r line; do
         case $line in
-        'file: '*) file=$room/crates/model/${line#file: } ;;
+        'file: '*) file=$room/crates/${line#file: } ;;
         'old: '*) old=${line#old: } ;;
         'new: '*) replace "$file" "$old" "${line#new: }" ;;
         esac

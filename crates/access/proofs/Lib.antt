@@ -1,1 +1,1 @@
-pub mod ZoneLaws
+pub mod ZoneRightLaws

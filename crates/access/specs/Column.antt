@@ -3,10 +3,11 @@ use Prim.Native.Nat.{ℕ}
 use mathlib.Core.Bool.{Bool}
 use mathlib.Core.List.{List}
 use mathlib.Core.Path.{_≡_}
-use Rattle.model.specs.Lists.{at, tab, at-tab}
+use Rattle.model.specs.Lists.{at, tab}
+use Rattle.laws.specs.ListLaws.{at-tab}
 use Rattle.model.specs.Volatile.{Active}
 use Rattle.model.specs.Access.{areaOf, stageOf, setOf, permission, permits, configurationAllows}
-use Rattle.model.specs.AccessLaws.{area-below}
+use Rattle.laws.specs.AccessLaws.{area-below}
 
 abbrev pub columnOf : ℕ → ℕ → List ℕ
 columnOf write f = tab (λ area. permission area (stageOf f) write) 7

@@ -3,9 +3,10 @@ ghost use mathlib.Core.Path.{_≡_};
 ghost use mathlib.Core.List.{[], _∷_, _++_};
 ghost use Prim.Native.Nat.{_≤_};
 ghost use lib.ListN.{length, drop};
+ghost use Rattle.model.specs.Sizes.{cardSize, fuseAt};
 ghost use Rattle.model.specs.Lists.{at};
 ghost use Rattle.access.specs.State.{volatileOf};
-ghost use Rattle.record.specs.Record.{commandOf};
+ghost use Rattle.record.specs.DecodedRecord.{commandOf};
 ghost use Rattle.carry.specs.Carried.{Ready, Carried};
 use access::volatile::Volatile;
 use access::volatile::power_up;
@@ -20,13 +21,14 @@ use security::authentication::begin_authentication;
 use security::authentication::verify_authentication;
 use security::fuse::write_fuses;
 use security::password::verify_password;
+use sizes::FUSES;
 
 // Read fuses: the fuse byte alone.
 fn read_fuses(card: &[u8], response: &mut [u8])
-    requires { ⌜ (length (now card) ≡ 2177) × (1 ≤ length (now response)) ⌝ }
-    ensures { λ _. ⌜ now (response .exit) ≡ (at (now (card .entry)) 2176 ∷ []) ++ drop 1 (now (response .entry)) ⌝ }
+    requires { ⌜ (length (now card) ≡ cardSize) × (1 ≤ length (now response)) ⌝ }
+    ensures { λ _. ⌜ now (response .exit) ≡ (at (now (card .entry)) fuseAt ∷ []) ++ drop 1 (now (response .entry)) ⌝ }
 {
-    response[0] = card[2176];
+    response[0] = card[FUSES];
 }
 
 // helper: the act of a record that takes the bytes up to end.

@@ -5,17 +5,18 @@ use mathlib.Core.List.{List, []}
 use mathlib.Core.Path.{_≡_, sym, _∙_}
 use borrow.Author.Tests.{lt-ltb, le-ltb, eq-eqb, ne-eqb}
 use lib.ListN.{length}
+use Rattle.model.specs.Sizes.{cardSize, fuseAt}
 use Rattle.model.specs.Lists.{at}
 use Rattle.model.specs.Volatile.{Volatile}
 use Rattle.model.specs.Call.{refused, whole}
 use Rattle.model.specs.Call as calls
 use Rattle.model.specs.At88sc1608.{at88sc1608}
-use Rattle.model.specs.Effects.{answerLength, answer-length}
+use Rattle.laws.specs.Effects.{answerLength, answer-length}
 use Rattle.model.specs.Record.{decode}
 use Rattle.model.specs.Refusal.{cardLength, fuseByte, stateOutOfRange, bytesLeft, noSpace}
 use Rattle.model.specs.Single.{isFuseByte, stateInRange, checkOf, check, apply, admission}
-use Rattle.record.specs.Record.{commandOf}
-use Rattle.record.specs.Refusal.{refusalNumber, number-some}
+use Rattle.record.specs.DecodedRecord.{commandOf}
+use Rattle.record.specs.RefusalNumber.{refusalNumber, number-some}
 use Rattle.record.specs.declared.decoder.Record.{Record}
 use Rattle.record.specs.declared.refusal.Refusal.{Refusal}
 use Rattle.command.specs.Alone.{answer-alone}
@@ -23,11 +24,11 @@ use Rattle.command.specs.Alone.{answer-alone}
 -- ---- the checks
 
 module _ (c : List ℕ) (s : Volatile) where
-  pub bad-length : (length c ≡ 2177 → ⊥) → cardLength ≡ check c s
+  pub bad-length : (length c ≡ cardSize → ⊥) → cardLength ≡ check c s
   unfolding checkOf
   bad-length n = rw (ne-eqb _ _ n)
 
-  module _ (ok : Bool) (long : length c ≡ 2177) (fuses : ok ≡ isFuseByte (at c 2176)) where
+  module _ (ok : Bool) (long : length c ≡ cardSize) (fuses : ok ≡ isFuseByte (at c fuseAt)) where
     pub bad-fuses : not ok ≡ true → fuseByte ≡ check c s
     unfolding checkOf
     bad-fuses e = rw (eq-eqb _ _ long, ← fuses, e)

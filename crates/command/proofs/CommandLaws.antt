@@ -4,17 +4,17 @@ use mathlib.Core.List.{List, _++_}
 use mathlib.Core.Path.{_≡_, sym, ap, _∙_}
 use borrow.Author.Tests.{ltb-true}
 use lib.ListN.{length, drop}
-use Rattle.model.specs.Lists.{and-left}
+use Rattle.laws.specs.BoolLaws.{and-left}
 use Rattle.model.specs.Volatile.{Volatile}
 use Rattle.model.specs.Command.{Command}
 use Rattle.model.specs.Call.{refused, whole, calling, refusing}
 use Rattle.model.specs.Call as calls
-use Rattle.model.specs.CallLaws.{admitted}
+use Rattle.laws.specs.CallLaws.{admitted}
 use Rattle.model.specs.At88sc1608.{at88sc1608}
-use Rattle.model.specs.Effects.{answerLength, answer-length}
+use Rattle.laws.specs.Effects.{answerLength, answer-length}
 use Rattle.model.specs.Record.{decode}
-use Rattle.model.specs.RecordLaws.{decode-within, decode-fields}
-use Rattle.model.specs.Sane.{Good, good-check}
+use Rattle.laws.specs.RecordLaws.{decode-within, decode-fields}
+use Rattle.laws.specs.Sane.{Good, good-check}
 use Rattle.model.specs.Single.{check, apply, admission, command}
 use Rattle.carry.specs.Carried.{Ready, Carried}
 
@@ -37,7 +37,7 @@ module _ (c : List ℕ) (s : Volatile) (bytes space : List ℕ) where
         }
 
     pub call-carried : (m : ℕ) (c′ : List ℕ) (s′ : Volatile) (space′ : List ℕ) → m ≡ answerLength at88sc1608 k → Carried c s k space c′ s′ space′
-        → record { card = c′; reply = record { refusal = 0; length = m; state = s′; space = space′ } } ≡ command c s (calling bytes space)
+        → record { card = c′; reply = record { refusal = 0; size = m; state = s′; space = space′ } } ≡ command c s (calling bytes space)
     unfolding calls.command
     call-carried m c′ s′ space′ q w =
         let l : length (apply c s k .report .answer) ≡ answerLength at88sc1608 k = answer-length at88sc1608 c s k in
@@ -46,7 +46,7 @@ module _ (c : List ℕ) (s : Volatile) (bytes space : List ℕ) where
           card = w .card i;
           reply = record {
             refusal = 0;
-            length = (q ∙ sym l) i;
+            size = (q ∙ sym l) i;
             state = w .state i;
             space = (w .answer ∙ ap (λ (j : ℕ). apply c s k .report .answer ++ drop j space) (sym l)) i;
           };

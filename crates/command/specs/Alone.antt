@@ -3,9 +3,9 @@ use Prim.Native.Nat.{ℕ}
 use mathlib.Core.List.{List, []}
 use mathlib.Core.Path.{_≡_, refl}
 use Rattle.model.specs.At88sc1608.{at88sc1608}
-use Rattle.model.specs.Effects.{answerLength}
+use Rattle.laws.specs.Effects.{answerLength}
 use Rattle.model.specs.Session.{kindOf}
-use Rattle.record.specs.Record.{commandOf}
+use Rattle.record.specs.DecodedRecord.{commandOf}
 use Rattle.record.specs.declared.decoder.Record.{Record}
 use Rattle.record.specs.declared.decoder.Record.the-variants as kind
 

@@ -10,7 +10,7 @@ use Rattle.access.specs.declared.volatile.Active.the-variants as active
 use Rattle.access.specs.declared.volatile.Authentication.{Authentication}
 use Rattle.access.specs.declared.volatile.Authentication.the-variants as authentication
 use Rattle.access.specs.declared.volatile.Volatile.{Volatile}
-use Rattle.record.specs.Refusal.{refusalNumber}
+use Rattle.record.specs.RefusalNumber.{refusalNumber}
 use Rattle.record.specs.declared.refusal.Refusal.{Refusal}
 use Rattle.record.specs.declared.refusal.Refusal.the-variants as refusal
 use Rattle.command.specs.declared.Outcome.{Outcome}

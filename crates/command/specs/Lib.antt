@@ -1,4 +1,4 @@
 pub mod Alone
 pub mod Reply
 pub mod Injective
-pub mod Demand3
+pub mod CodeSecrecy

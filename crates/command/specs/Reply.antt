@@ -4,7 +4,7 @@ use mathlib.Core.List.{List}
 use Rattle.model.specs.Call as call
 use Rattle.model.specs.Volatile as model
 use Rattle.access.specs.State.{volatileOf}
-use Rattle.record.specs.Refusal.{refusalNumber}
+use Rattle.record.specs.RefusalNumber.{refusalNumber}
 use Rattle.command.specs.declared.Outcome.{Outcome}
 use Rattle.command.specs.declared.Outcome.the-variants as outcome
 use Rattle.command.specs.declared.Reply.{Reply}
@@ -19,5 +19,5 @@ abbrev pub calledOf : Reply → List ℕ → List ℕ → call.Called model.Vola
 calledOf r card space =
     record {
       card = card;
-      reply = record { refusal = outcomeNumber (r .outcome); length = r .length; state = volatileOf (r .state); space = space };
+      reply = record { refusal = outcomeNumber (r .outcome); size = r .size; state = volatileOf (r .state); space = space };
     }

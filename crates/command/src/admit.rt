@@ -2,10 +2,10 @@
 ghost use mathlib.Core.Path.{_≡_};
 ghost use mathlib.Core.List.{[]};
 ghost use Rattle.model.specs.At88sc1608.{at88sc1608};
-ghost use Rattle.model.specs.Effects.{answerLength};
+ghost use Rattle.laws.specs.Effects.{answerLength};
 ghost use Rattle.model.specs.Single as model;
 ghost use Rattle.access.specs.State.{activeOf, volatileOf};
-ghost use Rattle.record.specs.Record.{commandOf, decodedOf};
+ghost use Rattle.record.specs.DecodedRecord.{commandOf, decodedOf};
 ghost use Rattle.command.specs.Reply.{outcomeNumber};
 use crate::Outcome;
 use access::rights::is_fuse_byte;
@@ -15,6 +15,8 @@ use record::decoder::Decoded;
 use record::decoder::Record;
 use record::decoder::decode;
 use record::refusal::Refusal;
+use sizes::CARD;
+use sizes::FUSES;
 
 fn selector_in_range(active: Active) -> bool
     ensures { λ r. ⌜ r ≡ model.activeBelow 16 (activeOf active) ⌝ }
@@ -40,10 +42,10 @@ fn state_in_range(state: Volatile) -> bool
 pub fn check(card: &[u8], state: Volatile) -> Outcome
     ensures { λ r. ⌜ outcomeNumber r ≡ model.check (now (card .entry)) (volatileOf state) ⌝ }
 {
-    if card.len() != 2177 {
+    if card.len() != CARD {
         return Outcome::Refused(Refusal::CardLength);
     }
-    let fuses = is_fuse_byte(card[2176]);
+    let fuses = is_fuse_byte(card[FUSES]);
     let range = state_in_range(state);
     if !fuses {
         return Outcome::Refused(Refusal::FuseByte);

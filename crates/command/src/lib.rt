@@ -21,7 +21,7 @@ pub enum Outcome {
 // What a call gives back beside the response space.
 pub struct Reply {
     pub outcome: Outcome,
-    pub length: usize,
+    pub size: usize,
     pub state: Volatile,
 }
 
@@ -33,7 +33,7 @@ pub fn command(card: &mut [u8], state: Volatile, record: &[u8], response: &mut [
     match admit(card, state, record, room) {
         Decoded::Refused(why) => Reply {
             outcome: Outcome::Refused(why),
-            length: 0,
+            size: 0,
             state,
         },
         Decoded::Whole(kind, end) => {
@@ -41,7 +41,7 @@ pub fn command(card: &mut [u8], state: Volatile, record: &[u8], response: &mut [
             let after = carry_out(card, state, kind, record, end, response);
             Reply {
                 outcome: Outcome::Accepted,
-                length,
+                size: length,
                 state: after,
             }
         }

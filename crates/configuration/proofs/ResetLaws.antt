@@ -3,7 +3,8 @@ use Prim.Native.Nat.{ℕ, _+_, _%_}
 use mathlib.Core.List.{List}
 use mathlib.Core.Path.{_≡_, ap, _∙_}
 use native.Mathlib.Omega.{arith}
-use Rattle.model.specs.Lists.{at, tab, tab-cong}
+use Rattle.model.specs.Lists.{at, tab}
+use Rattle.laws.specs.ListLaws.{tab-cong}
 use Rattle.model.specs.Volatile.{Volatile, none, idle, activating, authenticating}
 use Rattle.model.specs.Bits.{reversed}
 use Rattle.model.specs.Command.{reset}

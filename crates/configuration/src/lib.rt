@@ -4,6 +4,7 @@ ghost use mathlib.Core.Bool.{cond};
 ghost use mathlib.Core.List.{_++_};
 ghost use Prim.Native.Nat.{_+_, _<_, _≤_};
 ghost use lib.ListN.{length, drop};
+ghost use Rattle.model.specs.Sizes.{cardSize};
 ghost use Rattle.model.specs.Lists.{at};
 ghost use Rattle.model.specs.Command.{readConfiguration, writeConfiguration};
 ghost use Rattle.model.specs.Single.{apply};
@@ -13,6 +14,8 @@ use access::rights::column;
 use access::rights::configuration_allows;
 use access::volatile::Active;
 use access::volatile::Volatile;
+use sizes::CONFIGURATION;
+use sizes::FUSES;
 
 pub mod page;
 pub mod reset;
@@ -20,11 +23,11 @@ pub mod reversal;
 
 // The byte at a configuration address as it is answered: $00 where it may not be read.
 fn shown(card: &[u8], codes: &[u8; 7], active: Active, address: u8) -> u8
-    requires { ⌜ (length (now card) ≡ 2177) × (address < 128) ⌝ }
+    requires { ⌜ (length (now card) ≡ cardSize) × (address < 128) ⌝ }
     ensures { λ r. ⌜ r ≡ cond (columnAllows (now (codes .entry)) address (activeOf active)) (at (now (card .entry)) (2048 + address)) 0 ⌝ }
 {
     if configuration_allows(codes, address, active) {
-        return card[2048 + address as usize];
+        return card[CONFIGURATION + address as usize];
     }
     0
 }
@@ -37,10 +40,10 @@ pub fn read_configuration(
     count: usize,
     response: &mut [u8],
 )
-    requires { ⌜ (length (now card) ≡ 2177) × (address + count ≤ 128) × (count ≤ length (now response)) ⌝ }
+    requires { ⌜ (length (now card) ≡ cardSize) × (address + count ≤ 128) × (count ≤ length (now response)) ⌝ }
     ensures { λ _. ⌜ now (response .exit) ≡ apply (now (card .entry)) (volatileOf state) (readConfiguration address count) .report .answer ++ drop count (now (response .entry)) ⌝ }
 {
-    let codes = column(0, card[2176]);
+    let codes = column(0, card[FUSES]);
     let active = state.active;
     let mut i = 0;
     while i < count {
@@ -51,12 +54,12 @@ pub fn read_configuration(
 
 // helper: write configuration.
 pub fn write_configuration(card: &mut [u8], state: Volatile, address: u8, bytes: &[u8])
-    requires { ⌜ (length (now card) ≡ 2177) × (address < 128) ⌝ }
+    requires { ⌜ (length (now card) ≡ cardSize) × (address < 128) ⌝ }
     ensures { λ _. ⌜ now (card .exit) ≡ apply (now (card .entry)) (volatileOf state) (writeConfiguration address (now (bytes .entry))) .card ⌝ }
 {
-    let codes = column(1, card[2176]);
+    let codes = column(1, card[FUSES]);
     let first = address / 16 * 16;
-    let base = 2048 + first as usize;
+    let base = CONFIGURATION + first as usize;
     let end = base + 16;
     let low = address as usize % 16;
     let active = state.active;

@@ -6,7 +6,7 @@ ghost use lib.ListN.{length};
 ghost use Rattle.model.specs.Lists.{stores};
 ghost use Rattle.access.specs.Column.{columnAllows};
 ghost use Rattle.access.specs.State.{activeOf};
-ghost use Rattle.configuration.specs.Page.{allowedOf};
+ghost use Rattle.configuration.specs.ConfigurationPage.{allowedOf};
 use access::rights::configuration_allows;
 use access::volatile::Active;
 

@@ -6,6 +6,7 @@ use mathlib.Core.Path.{_≡_, refl, sym, ap, _∙_}
 use native.Mathlib.Omega.{arith}
 use lib.Dec.{eqb}
 use lib.ListN.{length}
+use Rattle.model.specs.Sizes.{cardSize, fuseAt}
 use Rattle.model.specs.Lists.{at, Bytes}
 use Rattle.model.specs.Call.{Called, calling}
 use Rattle.model.specs.Call as calls
@@ -15,16 +16,16 @@ use Rattle.model.specs.Single.{isFuseByte, checkOf, check, command}
 use Rattle.model.specs.Volatile.{Volatile}
 use Rattle.exports.specs.Exports.{result, runCall, toldRun, exportedRun, commandCall, toldCommand, exportedCommand}
 use Rattle.exports.specs.Lengths.{response-small, run-small}
-use Rattle.exports.specs.State.{isState, stateOf, stateAfter}
+use Rattle.exports.specs.StateBytes.{isState, stateOf, stateAfter}
 use Rattle.exports.specs.StateLaws.{state-long, state-range}
 
 -- ---- a session
 
 module _ (s space : List ℕ) (x : Ran) (ran : x ≡ run s space) where
-  pub log-fits : Bytes s → x .length ≤ 2 ^ 32
-  log-fits b = let e = ap (λ (y : Ran). y .length) ran in let h = run-small s space b in omega arith
+  pub log-fits : Bytes s → x .size ≤ 2 ^ 32
+  log-fits b = let e = ap (λ (y : Ran). y .size) ran in let h = run-small s space b in omega arith
 
-  pub run-told : (r : ℕ) → r ≡ result (x .refusal) (x .length) → runCall r (x .space) ≡ exportedRun s space
+  pub run-told : (r : ℕ) → r ≡ result (x .refusal) (x .size) → runCall r (x .space) ≡ exportedRun s space
   run-told r e = ap (λ (n : ℕ). runCall n (x .space)) e ∙ ap toldRun ran
 
 -- ---- a command
@@ -32,7 +33,7 @@ module _ (s space : List ℕ) (x : Ran) (ran : x ≡ run s space) where
 -- bytes that stand for no state are refused
 not-accepted : (c b : List ℕ) → isState b ≡ false → (n : ℕ) × (check c (stateOf b) ≡ suc n)
 unfolding checkOf
-not-accepted c b e = rw (state-range b, e) (go (eqb (length c) 2177) (isFuseByte (at c 2176)))
+not-accepted c b e = rw (state-range b, e) (go (eqb (length c) cardSize) (isFuseByte (at c fuseAt)))
   where
     go : (l f : Bool) → (n : ℕ) × (cond (not l) cardLength (cond (not f) fuseByte stateOutOfRange) ≡ suc n)
     go true true = (11, refl)
@@ -54,12 +55,12 @@ module _ (c b sent space : List ℕ) (v : Volatile) (read : v ≡ stateOf b) (x 
           let z : suc (w .0) ≡ 0 = sym (ap (λ (y : Called Volatile). y .reply .refusal) same ∙ rw (w .1)) ∙ e in
           absurd (let f : ⊥ = omega arith in f)
 
-  pub response-fits : Bytes sent → x .reply .length ≤ 2 ^ 32
+  pub response-fits : Bytes sent → x .reply .size ≤ 2 ^ 32
   response-fits h =
-      let e = ap (λ (y : Called Volatile). y .reply .length) called in
+      let e = ap (λ (y : Called Volatile). y .reply .size) called in
       let s = response-small c v (calling sent space) h in
       omega arith
 
-  pub command-told : (r : ℕ) (b′ : List ℕ) → r ≡ result (x .reply .refusal) (x .reply .length) → b′ ≡ stateAfter (x .reply .refusal) (x .reply .state) b
+  pub command-told : (r : ℕ) (b′ : List ℕ) → r ≡ result (x .reply .refusal) (x .reply .size) → b′ ≡ stateAfter (x .reply .refusal) (x .reply .state) b
       → commandCall r (x .card) b′ (x .reply .space) ≡ exportedCommand c b sent space
   command-told r b′ e w = (λ i. commandCall (e i) (x .card) (w i) (x .reply .space)) ∙ ap (toldCommand b) same

@@ -2,11 +2,11 @@
 use Prim.Native.Nat.{ℕ, _+_, _*_, _^_}
 use mathlib.Core.List.{List}
 use Rattle.model.specs.Call.{Called, calling}
-use Rattle.model.specs.Log.{Found, missing, lies}
+use Rattle.model.specs.Log.{Found, missing, located}
 use Rattle.model.specs.Session.{Ran, run}
 use Rattle.model.specs.Single.{command}
 use Rattle.model.specs.Volatile.{Volatile}
-use Rattle.exports.specs.State.{stateOf, stateAfter}
+use Rattle.exports.specs.StateBytes.{stateOf, stateAfter}
 
 -- the refusal's number, or 0, and 2^8 times a length
 abbrev pub result : ℕ → ℕ → ℕ
@@ -24,7 +24,7 @@ runCall r log = record { result = r; log = log }
 
 -- what the model's run tells of them
 abbrev pub toldRun : Ran → RunCall
-toldRun x = runCall (result (x .refusal) (x .length)) (x .space)
+toldRun x = runCall (result (x .refusal) (x .size)) (x .space)
 
 -- of a session and a log space
 abbrev pub exportedRun : List ℕ → List ℕ → RunCall
@@ -45,7 +45,7 @@ commandCall r card state response = record { result = r; card = card; state = st
 -- what the model's call tells of them, for the state's bytes at entry
 abbrev pub toldCommand : List ℕ → Called Volatile → CommandCall
 toldCommand state x =
-    commandCall (result (x .reply .refusal) (x .reply .length)) (x .card) (stateAfter (x .reply .refusal) (x .reply .state) state) (x .reply .space)
+    commandCall (result (x .reply .refusal) (x .reply .size)) (x .card) (stateAfter (x .reply .refusal) (x .reply .state) state) (x .reply .space)
 
 -- of a card, a state's bytes, a record and a response space
 abbrev pub exportedCommand : List ℕ → List ℕ → List ℕ → List ℕ → CommandCall
@@ -56,4 +56,4 @@ exportedCommand card state sent response = toldCommand state (command card (stat
 -- the refusal's number, or 2^8 times the answer's length and 2^40 times where it begins in the log
 abbrev pub exportedAnswer : Found → ℕ
 exportedAnswer (missing n) = n
-exportedAnswer (lies from n) = 2 ^ 8 * n + 2 ^ 40 * from
+exportedAnswer (located from n) = 2 ^ 8 * n + 2 ^ 40 * from

@@ -7,14 +7,16 @@ use mathlib.Core.Path.{_≡_, refl}
 use native.Mathlib.Nat.{le-of-suc-le-suc}
 use native.Mathlib.Omega.{arith}
 use lib.ListN.{length}
-use Rattle.model.specs.Lists.{Bytes, and-left, and-right}
+use Rattle.model.specs.Sizes.{leastLog, mostRecords}
+use Rattle.model.specs.Lists.{Bytes}
+use Rattle.laws.specs.BoolLaws.{and-left, and-right}
 use Rattle.model.specs.At88sc1608.{at88sc1608}
 use Rattle.model.specs.Call.{Decoded, refused, whole, Call}
 use Rattle.model.specs.Call as calls
-use Rattle.model.specs.CallLaws.{admitted}
+use Rattle.laws.specs.CallLaws.{admitted}
 use Rattle.model.specs.Command.{Command}
-use Rattle.model.specs.Effects.{answer-length}
-use Rattle.model.specs.Log.{Entry, lengthAt, nextEntry, entryOk, entriesOk, entryPlace, LaidOut, countOf, offsetOf, trailerOk, valid, find, lies}
+use Rattle.laws.specs.Effects.{answer-length}
+use Rattle.model.specs.Log.{Entry, lengthAt, nextEntry, entryOk, entriesOk, entryPlace, LaidOut, countOf, offsetOf, trailerOk, valid, find, located}
 use Rattle.model.specs.Record.{decode}
 use Rattle.model.specs.Session.{run}
 use Rattle.model.specs.Single.{check, apply, admit, command}
@@ -29,11 +31,11 @@ use Rattle.properties.specs.SessionLaws.{decode-logs}
 -- ---- a response
 
 -- of a record of bytes
-pub response-small : (c : List ℕ) (s : Volatile) (x : Call) → Bytes (x .sent) → command c s x .reply .length ≤ 256
+pub response-small : (c : List ℕ) (s : Volatile) (x : Call) → Bytes (x .sent) → command c s x .reply .size ≤ 256
 unfolding calls.command
 response-small c s x b = go (admit c s x) refl
   where
-    go : (d : Decoded Command) → admit c s x ≡ d → calls.carried check decode apply c s (x .space) d .reply .length ≤ 256
+    go : (d : Decoded Command) → admit c s x ≡ d → calls.carried check decode apply c s (x .space) d .reply .size ≤ 256
     go (refused n) e = omega arith
     go (whole k n) e =
         let a = admitted check decode apply c s x k n e in
@@ -50,7 +52,7 @@ module _ (l : List ℕ) (end : ℕ) where
       let p = place-small n (nextEntry l i) (and-right (entryOk l i end) _ e) k (le-of-suc-le-suc h) in
       (p .0, let q = p .1 in omega arith)
 
-pub answer-small : (l : List ℕ) (k from n : ℕ) → find l k ≡ lies from n → (n ≤ 256) × (from ≤ 259 * 4096)
+pub answer-small : (l : List ℕ) (k from n : ℕ) → find l k ≡ located from n → (n ≤ 256) × (from ≤ 259 * mostRecords)
 unfolding valid
 answer-small l k from n e =
     let a = answered l k from n e in
@@ -65,7 +67,7 @@ answer-small l k from n e =
 
 -- ---- a log
 
-log-small : (es : List Entry) (card l : List ℕ) → LaidOut es card l → length l ≤ 259 * 4096 + 2185
+log-small : (es : List Entry) (card l : List ℕ) → LaidOut es card l → length l ≤ 259 * mostRecords + leastLog
 log-small es card l w =
     let s = entries-small es (w .fit) in
     let f = w .few in
@@ -73,10 +75,10 @@ log-small es card l w =
     omega arith
 
 -- of a session of bytes
-pub run-small : (s space : List ℕ) → Bytes s → run s space .length ≤ 259 * 4096 + 2185
+pub run-small : (s space : List ℕ) → Bytes s → run s space .size ≤ 259 * mostRecords + leastLog
 run-small s space b = go (run s space .refusal) refl
   where
-    go : (n : ℕ) → run s space .refusal ≡ n → run s space .length ≤ 259 * 4096 + 2185
+    go : (n : ℕ) → run s space .refusal ≡ n → run s space .size ≤ 259 * mostRecords + leastLog
     go zero e =
         let a = accepted-run s space e in
         rw (run-accepted s space (a .0) (a .1)) (log-small _ _ _ (laid-out s space (a .0) b (a .1)))

@@ -1,5 +1,5 @@
-pub mod State
+pub mod StateBytes
 pub mod Exports
 pub mod StateLaws
-pub mod CommandLaws
+pub mod ExportedCommandLaws
 pub mod Lengths

@@ -7,11 +7,12 @@ use native.Mathlib.Omega.{arith}
 use borrow.Author.Tests.{eqb-true, eqb-false, ltb-true}
 use lib.Dec.{ltb, eqb}
 use lib.ListN.{length}
-use Rattle.model.specs.Lists.{at, and-left, and-right}
+use Rattle.model.specs.Lists.{at}
+use Rattle.laws.specs.BoolLaws.{and-left, and-right}
 use Rattle.model.specs.At88sc1608.{at88sc1608}
 use Rattle.model.specs.Single.{activeBelow, stateInRange}
 use Rattle.model.specs.Volatile.{Volatile, Active, none, selector, Authentication, idle, begun, granted}
-use Rattle.exports.specs.State.{activeFlag, activeSelector, authenticationByte, stateBytes, activeInRange, isState, activeRead, authenticationRead, stateOf}
+use Rattle.exports.specs.StateBytes.{activeFlag, activeSelector, authenticationByte, stateBytes, activeInRange, isState, activeRead, authenticationRead, stateOf}
 
 abbrev state : ℕ → Active → Authentication → Volatile
 state z a u = record { zone = z; active = a; authentication = u }

@@ -22,7 +22,7 @@ pub extern "C" fn at88sc1608_run(session: &[u8], log: &mut [u8]) -> u64
 {
     let ran = run(session, log);
     let outcome = ran.outcome;
-    result_number(outcome, ran.length)
+    result_number(outcome, ran.size)
 }
 
 // One command: the refusal's number, or 0, and 2^8 times the response's length.
@@ -40,7 +40,7 @@ pub extern "C" fn at88sc1608_command(
     let outcome = reply.outcome;
     let after = reply.state;
     write_state(state, outcome, after);
-    result_number(outcome, reply.length)
+    result_number(outcome, reply.size)
 }
 
 // An answer of a log, from 0: the refusal's number, or 0, 2^8 times its length and 2^40 times where it begins.

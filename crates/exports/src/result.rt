@@ -1,7 +1,8 @@
 // The numbers that the exported functions give back.
 ghost use mathlib.Core.Path.{_≡_};
 ghost use Prim.Native.Nat.{_*_, _≤_, _^_};
-ghost use Rattle.model.specs.Log.{lies};
+ghost use Rattle.model.specs.Sizes.{mostRecords};
+ghost use Rattle.model.specs.Log.{located};
 ghost use Rattle.command.specs.Reply.{outcomeNumber};
 ghost use Rattle.exports.specs.Exports.{result, exportedAnswer};
 use command::Outcome;
@@ -29,8 +30,8 @@ pub fn result_number(outcome: Outcome, length: usize) -> u64
 
 // helper: 2^8 times an answer's length and 2^40 times where it begins.
 pub fn answer_number(from: usize, length: usize) -> u64
-    requires { ⌜ (length ≤ 256) × (from ≤ 259 * 4096) ⌝ }
-    ensures { λ r. ⌜ r ≡ exportedAnswer (lies from length) ⌝ }
+    requires { ⌜ (length ≤ 256) × (from ≤ 259 * mostRecords) ⌝ }
+    ensures { λ r. ⌜ r ≡ exportedAnswer (located from length) ⌝ }
 {
     let start = from as u64;
     let long = length as u64;

@@ -3,7 +3,7 @@ ghost use mathlib.Core.Path.{_≡_};
 ghost use lib.ListN.{length};
 ghost use Rattle.access.specs.State.{activeOf, authenticationOf, volatileOf};
 ghost use Rattle.command.specs.Reply.{outcomeNumber};
-ghost use Rattle.exports.specs.State.{activeFlag, activeSelector, authenticationByte, activeInRange, isState, activeRead, authenticationRead, stateOf, stateAfter};
+ghost use Rattle.exports.specs.StateBytes.{activeFlag, activeSelector, authenticationByte, activeInRange, isState, activeRead, authenticationRead, stateOf, stateAfter};
 use access::volatile::Active;
 use access::volatile::Authentication;
 use access::volatile::Volatile;

@@ -1,2 +1,2 @@
 mod LineLaws
-mod ListLaws
+mod ListedLaws

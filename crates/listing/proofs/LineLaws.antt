@@ -6,7 +6,9 @@ use mathlib.Core.Path.{_≡_, refl, sym, ap, _∙_}
 use native.Mathlib.Omega.{arith}
 use lib.ListN.{length, take, drop, length-append, length-drop}
 use lib.Seq.{getD-take, getD-drop, length-take-le, drop-drop, take-nil, drop-nil, take-all}
-use Rattle.model.specs.Lists.{at, and-left, and-right}
+use Rattle.model.specs.Sizes.{fuseAt}
+use Rattle.model.specs.Lists.{at}
+use Rattle.laws.specs.BoolLaws.{and-left, and-right}
 use Rattle.model.specs.Log.{countOf, offsetOf, lengthAt, entryOk, entriesOk, trailerOk, valid}
 use Rattle.properties.specs.LogLaws.{entered, Trailed, trailed}
 use Rattle.text.specs.Put.{Put}
@@ -153,7 +155,7 @@ module _ (l : List ℕ) (r : LogReady l) where
   log-trailed = trailed l (and-left (trailerOk l) _ (r .well))
 
   pub log-long : length (logLines l) ≡ length (linesAt (countOf l) 0 l 0) + 9
-  log-long = length-append (linesAt (countOf l) 0 l 0) (fusesLine (at l (offsetOf l + 2176)))
+  log-long = length-append (linesAt (countOf l) 0 l 0) (fusesLine (at l (offsetOf l + fuseAt)))
 
   module _ (count end : ℕ) (counted : count ≡ countOf l) (points : end ≡ offsetOf l) where
     pub entries-ready : EntriesReady l count end
@@ -166,10 +168,10 @@ module _ (l : List ℕ) (r : LogReady l) where
         }
 
     pub log-put : (t t₁ : List ℕ) (i₁ : ℕ) (t₂ : List ℕ) (i₂ : ℕ) (t₃ : List ℕ) (i₃ : ℕ) (t₄ : List ℕ) (i₄ : ℕ)
-        → Put t 0 (linesAt count 0 l 0) t₁ i₁ → Put t₁ i₁ (0x66 ∷ 0x75 ∷ 0x73 ∷ 0x65 ∷ 0x73 ∷ []) t₂ i₂ → Put t₂ i₂ (hex (at l (end + 2176))) t₃ i₃ → Put t₃ i₃ (0x0A ∷ []) t₄ i₄
+        → Put t 0 (linesAt count 0 l 0) t₁ i₁ → Put t₁ i₁ (0x66 ∷ 0x75 ∷ 0x73 ∷ 0x65 ∷ 0x73 ∷ []) t₂ i₂ → Put t₂ i₂ (hex (at l (end + fuseAt))) t₃ i₃ → Put t₃ i₃ (0x0A ∷ []) t₄ i₄
         → Put t 0 (logLines l) t₄ i₄
     log-put t t₁ i₁ t₂ i₂ t₃ i₃ t₄ i₄ p q s u =
-        rw (← counted, ← points) (put-then t 0 (linesAt count 0 l 0) t₁ i₁ (fusesLine (at l (end + 2176))) t₄ i₄ p (word-put (0x66 ∷ 0x75 ∷ 0x73 ∷ 0x65 ∷ 0x73 ∷ []) (hex (at l (end + 2176))) t₁ i₁ t₂ i₂ t₃ i₃ t₄ i₄ q s u))
+        rw (← counted, ← points) (put-then t 0 (linesAt count 0 l 0) t₁ i₁ (fusesLine (at l (end + fuseAt))) t₄ i₄ p (word-put (0x66 ∷ 0x75 ∷ 0x73 ∷ 0x65 ∷ 0x73 ∷ []) (hex (at l (end + fuseAt))) t₁ i₁ t₂ i₂ t₃ i₃ t₄ i₄ q s u))
 
     -- the line of the fuses has room behind the entries' lines
     pub entries-room : (t t₁ : List ℕ) (i₁ : ℕ) → Put t 0 (linesAt count 0 l 0) t₁ i₁ → i₁ + 9 < 2 ^ 64
@@ -180,5 +182,5 @@ module _ (l : List ℕ) (r : LogReady l) where
         let s = r .small in
         omega arith
 
-    pub fuses-within : end + 2176 < length l
+    pub fuses-within : end + fuseAt < length l
     fuses-within = let m = log-trailed .meets in let p = points in omega arith

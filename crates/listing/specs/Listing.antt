@@ -3,6 +3,7 @@ use Prim.Native.Nat.{ℕ, zero, suc, _+_, min}
 use mathlib.Core.List.{List, [], _++_}
 use lib.ListN.{length, take, drop}
 use lib.Seq.{sets}
+use Rattle.model.specs.Sizes.{fuseAt}
 use Rattle.model.specs.Lists.{at}
 use Rattle.model.specs.Command.{Command}
 use Rattle.model.specs.Log.{countOf, offsetOf, lengthAt, nextEntry}
@@ -20,7 +21,7 @@ commandsOf s = commandsIn (readFrom (session.countOf s) s (session.startOf s))
 
 -- a line per record and F at the end; or the refusal alone
 abbrev pub listed : List ℕ → ℕ → List ℕ
-listed s zero = lines 0 (entriesOf (commandsOf s) (initial s)) ++ fusesLine (at (endOf (commandsOf s) (initial s) .card) 2176)
+listed s zero = lines 0 (entriesOf (commandsOf s) (initial s)) ++ fusesLine (at (endOf (commandsOf s) (initial s) .card) fuseAt)
 listed s (suc n) = refusedLine (suc n)
 
 -- of a session that is run in a log space
@@ -30,12 +31,12 @@ listing s log = listed s (run s log .refusal)
 -- what the call gives back and leaves: how much of the text stands in the text space, the log space, the text space.
 -- Of a text that is longer than its space there is what fits.
 pub record Listed : Type 0 where
-  pub length : ℕ
+  pub size : ℕ
   pub log : List ℕ
   pub text : List ℕ
 
 abbrev pub listIn : List ℕ → List ℕ → List ℕ → Listed
-listIn s log text = record { length = min (length (listing s log)) (length text); log = run s log .space; text = sets text 0 (listing s log) }
+listIn s log text = record { size = min (length (listing s log)) (length text); log = run s log .space; text = sets text 0 (listing s log) }
 
 -- ---- by places in a log
 
@@ -44,4 +45,4 @@ linesAt zero k l i = []
 linesAt (suc n) k l i = line k (at l i) (take (lengthAt l i) (drop (i + 3) l)) ++ linesAt n (suc k) l (nextEntry l i)
 
 abbrev pub logLines : List ℕ → List ℕ
-logLines l = linesAt (countOf l) 0 l 0 ++ fusesLine (at l (offsetOf l + 2176))
+logLines l = linesAt (countOf l) 0 l 0 ++ fusesLine (at l (offsetOf l + fuseAt))

@@ -5,6 +5,7 @@ use mathlib.Core.Path.{_≡_, refl, ap, _∙_}
 use native.Mathlib.Omega.{arith}
 use lib.ListN.{length, length-append, List·getD-append}
 use lib.Seq.{getD-append-add, length-sets}
+use Rattle.model.specs.Sizes.{fuseAt}
 use Rattle.model.specs.Lists.{at}
 use Rattle.model.specs.Log.{Entry, entryBytes, entriesBytes, logTrailer, AllFit, LaidOut}
 use Rattle.properties.specs.Written.{length-entry, kind-at, response-at, next-at, fits-two, first-entry, other-entries, offset-is, count-is, log-length}
@@ -21,11 +22,11 @@ entries-listed (e ∷ es) p q k f =
     (ap (λ (x : List ℕ). line k (e .kind) (e .response) ++ x) (rw (other-entries p e es q) at rest))
 
 module _ (es : List Entry) (card l : List ℕ) (w : LaidOut es card l) where
-  pub log-listed : logLines l ≡ lines 0 es ++ fusesLine (at card 2176)
+  pub log-listed : logLines l ≡ lines 0 es ++ fusesLine (at card fuseAt)
   log-listed =
       let o = w .long in
-      rw (count-is es card l w, offset-is es card l w, w .same, getD-append-add (entriesBytes es) (card ++ logTrailer (length (entriesBytes es)) (length es)) 2176 0, List·getD-append card (logTrailer (length (entriesBytes es)) (length es)) 0 2176 (omega arith))
-      (ap (λ (x : List ℕ). x ++ fusesLine (at card 2176)) (entries-listed es [] (card ++ logTrailer (length (entriesBytes es)) (length es)) 0 (w .fit)))
+      rw (count-is es card l w, offset-is es card l w, w .same, getD-append-add (entriesBytes es) (card ++ logTrailer (length (entriesBytes es)) (length es)) fuseAt 0, List·getD-append card (logTrailer (length (entriesBytes es)) (length es)) 0 fuseAt (omega arith))
+      (ap (λ (x : List ℕ). x ++ fusesLine (at card fuseAt)) (entries-listed es [] (card ++ logTrailer (length (entriesBytes es)) (length es)) 0 (w .fit)))
 
 lines-length : (es : List Entry) (k : ℕ) → k + length es ≤ 10000 → length (lines k es) ≤ 3 * length (entriesBytes es)
 lines-length [] k h = omega arith
@@ -42,12 +43,12 @@ pub listing-length : (es : List Entry) (card l : List ℕ) → LaidOut es card l
 listing-length es card l w =
     let a = lines-length es 0 (let f = w .few in omega arith) in
     let b = log-length es card l w in
-    let c = ap length (log-listed es card l w) ∙ length-append (lines 0 es) (fusesLine (at card 2176)) in
+    let c = ap length (log-listed es card l w) ∙ length-append (lines 0 es) (fusesLine (at card fuseAt)) in
     omega arith
 
 -- what is given back lies within the text space
-pub text-within : (s log text : List ℕ) (r : Listed) → r ≡ listIn s log text → r .length ≤ length (r .text)
+pub text-within : (s log text : List ℕ) (r : Listed) → r ≡ listIn s log text → r .size ≤ length (r .text)
 text-within s log text r e =
-    let a = ap (λ (x : Listed). x .length) e in
+    let a = ap (λ (x : Listed). x .size) e in
     let b = ap (λ (x : Listed). length (x .text)) e ∙ length-sets text 0 (listing s log) in
     omega arith

@@ -4,7 +4,8 @@ use mathlib.Core.List.{List, [], _∷_, _++_}
 use mathlib.Core.Path.{_≡_, refl, sym}
 use native.Mathlib.Omega.{arith}
 use lib.ListN.{length, length-append}
-use Rattle.model.specs.Lists.{Bytes, choice}
+use Rattle.model.specs.Lists.{Bytes}
+use Rattle.laws.specs.BoolLaws.{choice}
 use Rattle.model.specs.Reader.{partAt}
 use Rattle.model.specs.Record.{recordLength}
 use Rattle.model.specs.Session.{startOf, countOf, logOf, run}

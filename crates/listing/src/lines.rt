@@ -3,7 +3,7 @@ ghost use mathlib.Core.Path.{_≡_};
 ghost use Prim.Native.Nat.{_+_, _≤_, _<_, _^_};
 ghost use lib.ListN.{length, drop};
 ghost use Rattle.model.specs.Lists as lists;
-ghost use Rattle.record.specs.Refusal.{refusalNumber};
+ghost use Rattle.record.specs.RefusalNumber.{refusalNumber};
 ghost use Rattle.text.specs.Put.{Put};
 ghost use Rattle.listing.specs.Ready.{EntriesReady, LogReady};
 ghost use Rattle.text.specs.Text.{line, fusesLine, refusedLine};
@@ -12,6 +12,8 @@ use record::number::get2;
 use record::number::get4;
 use record::refusal::Refusal;
 use record::refusal::number;
+use sizes::FUSES;
+use sizes::TRAILER;
 use text::put;
 use text::put_all;
 use text::put_decimal;
@@ -52,10 +54,10 @@ pub fn put_log(text: &mut [u8], log: &[u8]) -> usize
     ensures { λ r. ⌜ Put (now (text .entry)) 0 (logLines (now (log .entry))) (now (text .exit)) r ⌝ }
 {
     let length = log.len();
-    let end = get4(log, length - 8);
+    let end = get4(log, length - TRAILER);
     let fuses = put_entries(text, log, get2(log, length - 4), end);
     let value = put_all(text, fuses, b"fuses");
-    let last = put_hex(text, value, log[end + 2176]);
+    let last = put_hex(text, value, log[end + FUSES]);
     put(text, last, 10)
 }
 

@@ -4,7 +4,7 @@ use mathlib.Core.Bool.{Bool, true, false, not}
 use mathlib.Core.List.{List}
 use mathlib.Core.Path.{_≡_, sym, _∙_}
 use borrow.Author.Tests.{lt-ltb, le-ltb, not-true, not-false}
-use Rattle.model.specs.Log.{lengthAt, nextEntry, countOf, offsetOf, trailerOk, valid, find, missing, lies}
+use Rattle.model.specs.Log.{lengthAt, nextEntry, countOf, offsetOf, trailerOk, valid, find, missing, located}
 use Rattle.model.specs.Refusal.{notALog, noSuchAnswer}
 use Rattle.properties.specs.LogLaws.{Trailed, trailed, entry-ends}
 use Rattle.log.specs.Scan.{Scanned}
@@ -32,7 +32,7 @@ module _ (l : List ℕ) (k : ℕ) (ok : Bool) (trailer : ok ≡ trailerOk l) whe
         pub place-ends : k < count → nextEntry l place ≤ end
         place-ends h = rw (pass .kept (not-false ok′ fine) h) (entry-ends count l 0 end (sym (pass .all) ∙ not-false ok′ fine) k h)
 
-        pub answer-at : (n : ℕ) → k < count → n ≡ lengthAt l place → lies (place + 3) n ≡ find l k
+        pub answer-at : (n : ℕ) → k < count → n ≡ lengthAt l place → located (place + 3) n ≡ find l k
         unfolding find valid
         answer-at n h e =
             let q = pass .kept (not-false ok′ fine) h in

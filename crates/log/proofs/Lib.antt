@@ -1,3 +1,3 @@
-mod CheckLaws
+mod LogCheckLaws
 mod FindLaws
-mod WriteLaws
+mod LogWriteLaws

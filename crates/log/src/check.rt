@@ -4,6 +4,7 @@ ghost use mathlib.Core.Bool.{cond};
 ghost use Prim.Native.Nat.{_+_, _≤_};
 ghost use lib.ListN.{length};
 ghost use Rattle.model.specs.Log as model;
+ghost use Rattle.model.specs.Record.{lengthFits};
 ghost use Rattle.log.specs.Scan.{Scanned};
 use record::decoder::both;
 use record::number::get2;
@@ -11,7 +12,7 @@ use record::number::get4;
 
 // Whether a response to a kind can be this long.
 fn length_fits(kind: u8, response: usize) -> bool
-    ensures { λ r. ⌜ r ≡ model.lengthFits kind response ⌝ }
+    ensures { λ r. ⌜ r ≡ lengthFits kind response ⌝ }
 {
     match kind {
         2 => response == 4,

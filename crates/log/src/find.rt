@@ -7,6 +7,10 @@ use access::rights::is_fuse_byte;
 use record::number::get2;
 use record::number::get4;
 use record::refusal::Refusal;
+use sizes::FUSES;
+use sizes::LEAST_LOG;
+use sizes::MOST_RECORDS;
+use sizes::TRAILER;
 
 // A refusal, or where an answer begins and how long it is.
 pub enum Found {
@@ -19,7 +23,7 @@ fn trailer_ok(log: &[u8]) -> bool
     ensures { λ r. ⌜ r ≡ model.trailerOk (now (log .entry)) ⌝ }
 {
     let length = log.len();
-    if length < 2185 {
+    if length < LEAST_LOG {
         return false;
     }
     if log[length - 2] != 76 {
@@ -28,14 +32,14 @@ fn trailer_ok(log: &[u8]) -> bool
     if log[length - 1] != 79 {
         return false;
     }
-    if 4096 < get2(log, length - 4) {
+    if MOST_RECORDS < get2(log, length - 4) {
         return false;
     }
-    let offset = get4(log, length - 8);
-    if offset + 2185 != length {
+    let offset = get4(log, length - TRAILER);
+    if offset + LEAST_LOG != length {
         return false;
     }
-    is_fuse_byte(log[offset + 2176])
+    is_fuse_byte(log[offset + FUSES])
 }
 
 // Where answer number lies, from 0. The whole log is checked for every number.
@@ -47,7 +51,7 @@ pub fn find(log: &[u8], number: usize) -> Found
     }
     let length = log.len();
     let count = get2(log, length - 4);
-    let end = get4(log, length - 8);
+    let end = get4(log, length - TRAILER);
     let scanned = scan(log, count, end, number);
     if !scanned.ok {
         return Found::Refused(Refusal::NotALog);

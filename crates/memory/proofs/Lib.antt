@@ -1,3 +1,3 @@
 mod CopyLaws
 mod RollLaws
-mod ZoneLaws
+mod ZoneMemoryLaws

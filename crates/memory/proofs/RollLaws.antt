@@ -7,8 +7,9 @@ use native.Mathlib.Omega.{arith}
 use borrow.Author.Tests.{not-true, not-false}
 use lib.ListN.{length, take, drop}
 use lib.Seq.{sets, length-sets}
-use Rattle.model.specs.Lists.{at, tab, length-tab, tab-cong, tab-add, tab-part}
-use Rattle.model.specs.Numbers.{sets-append, sets-front}
+use Rattle.model.specs.Lists.{at, tab}
+use Rattle.laws.specs.ListLaws.{length-tab, tab-cong, tab-add, tab-part}
+use Rattle.laws.specs.NumberLaws.{sets-append, sets-front}
 
 module _ (card : List ℕ) (base address : ℕ) where
   abbrev byte : ℕ → ℕ

@@ -3,7 +3,7 @@ ghost use mathlib.Core.Path.{_≡_};
 ghost use Prim.Native.Nat.{_+_, _%_, _<_};
 ghost use lib.ListN.{length};
 ghost use Rattle.model.specs.Lists.{stores};
-ghost use Rattle.memory.specs.Page.{mergedOf};
+ghost use Rattle.memory.specs.ZonePage.{mergedOf};
 
 // What a byte of a zone holds after a write: with PGO, old AND new.
 fn merged(pgo: bool, old: u8, new: u8) -> u8

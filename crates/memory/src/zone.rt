@@ -4,10 +4,11 @@ ghost use mathlib.Core.Bool.{cond};
 ghost use mathlib.Core.List.{_++_};
 ghost use Prim.Native.Nat.{_+_, _%_, _<_, _≤_};
 ghost use lib.ListN.{length, drop};
+ghost use Rattle.model.specs.Sizes.{cardSize};
 ghost use Rattle.model.specs.Lists.{at, tab};
 ghost use Rattle.model.specs.Command.{readZone, writeZone};
 ghost use Rattle.model.specs.Single.{apply};
-ghost use Rattle.memory.specs.Page.{mergesOf};
+ghost use Rattle.memory.specs.ZonePage.{mergesOf};
 ghost use Rattle.access.specs.State.{volatileOf};
 use crate::copy::clear;
 use crate::copy::copy;
@@ -17,6 +18,8 @@ use access::register;
 use access::rights::zone_readable;
 use access::rights::zone_writable;
 use access::volatile::Volatile;
+use sizes::FUSES;
+use sizes::REGISTERS;
 
 // count bytes of the 256 from base on, starting at the address and going on at the first past the last; $00 for each where the
 // zone may not be read.
@@ -40,11 +43,11 @@ fn roll(card: &[u8], base: usize, address: usize, count: usize, readable: bool, 
 
 // helper: read zone.
 pub fn read_zone(card: &[u8], state: Volatile, address: u8, count: usize, response: &mut [u8])
-    requires { ⌜ (length (now card) ≡ 2177) × (state .zone .0 < 8) × (count ≤ length (now response)) ⌝ }
+    requires { ⌜ (length (now card) ≡ cardSize) × (state .zone .0 < 8) × (count ≤ length (now response)) ⌝ }
     ensures { λ _. ⌜ now (response .exit) ≡ apply (now (card .entry)) (volatileOf state) (readZone address count) .report .answer ++ drop count (now (response .entry)) ⌝ }
 {
     let zone = state.zone.0 as usize;
-    let readable = zone_readable(card[2176], card[2064 + zone], state);
+    let readable = zone_readable(card[FUSES], card[REGISTERS + zone], state);
     roll(
         card,
         zone * 256,
@@ -68,12 +71,12 @@ fn merges(fuses: u8, register: u8) -> bool
 
 // helper: write zone.
 pub fn write_zone(card: &mut [u8], state: Volatile, address: u8, bytes: &[u8])
-    requires { ⌜ (length (now card) ≡ 2177) × (state .zone .0 < 8) ⌝ }
+    requires { ⌜ (length (now card) ≡ cardSize) × (state .zone .0 < 8) ⌝ }
     ensures { λ _. ⌜ now (card .exit) ≡ apply (now (card .entry)) (volatileOf state) (writeZone address (now (bytes .entry))) .card ⌝ }
 {
     let zone = state.zone.0 as usize;
-    let fuses = card[2176];
-    let register = card[2064 + zone];
+    let fuses = card[FUSES];
+    let register = card[REGISTERS + zone];
     if !zone_writable(fuses, register, state) {
         return;
     }

@@ -14,6 +14,24 @@ use Rattle.model.specs.Call.{Acted, Powered, acted, powered, silent}
 abbrev pub fullCounter : ℕ
 fullCounter = 255
 
+-- how a presented password fares: its counter is used up, or the bytes are right, or they are wrong
+pub data Attempt : Type 0 where
+  locked right wrong : Attempt
+
+abbrev pub attemptOf : (used same : Bool) → Attempt
+attemptOf true same = locked
+attemptOf false true = right
+attemptOf false false = wrong
+
+-- how authentication fares: it was not begun, or the verdict is 1, or it is 0
+pub data Judgement : Type 0 where
+  notBegun accepted denied : Judgement
+
+abbrev pub judgementOf : (begun verdict : Bool) → Judgement
+judgementOf false verdict = notBegun
+judgementOf true true = accepted
+judgementOf true false = denied
+
 module _ (D : Device) where
   -- the rule bytes of a card
   abbrev pub rules : List ℕ → List ℕ
@@ -35,35 +53,46 @@ module _ (D : Device) where
   abbrev pub spent : List ℕ → ℕ → List ℕ
   spent c i = set c i (D .spend (at c i))
 
-  -- kind 10, by whether the counter is used up and whether the bytes are the password
-  abbrev pub presented : (locked right : Bool) → List ℕ → Volatile → ℕ → Powered Volatile
-  presented true right c s k = powered c s
-  presented false true c s k = powered (set c (D .counterAt k) fullCounter) (activating s (selector k))
-  presented false false c s k = powered (spent c (D .counterAt k)) (activating s none)
+  -- Kind 10. Locked: nothing changes, and whatever password was active stays so. Right: the counter is full again, and this
+  -- selector is the active one. Wrong: the counter counts, and no password is active. Zone, authentication and every other byte stay.
+  abbrev pub presented : Attempt → List ℕ → Volatile → ℕ → Powered Volatile
+  presented locked c s k = powered c s
+  presented right c s k = powered (set c (D .counterAt k) fullCounter) (activating s (selector k))
+  presented wrong c s k = powered (spent c (D .counterAt k)) (activating s none)
 
-  -- kind 11, by whether the counter is used up
-  abbrev pub started : (locked : Bool) → List ℕ → Volatile → Powered Volatile
+  -- Kind 11, by whether the counter is used up. If so, nothing changes; else the counter counts at once and authentication is
+  -- begun. Zone, active password and every other byte stay.
+  abbrev pub started : (used : Bool) → List ℕ → Volatile → Powered Volatile
   started true c s = powered c s
   started false c s = powered (spent c (D .attemptsAt)) (authenticating s begun)
 
-  -- kind 12, by whether authentication is begun and by the verdict
-  abbrev pub judged : (isBegun verdict : Bool) → List ℕ → Volatile → List ℕ → Powered Volatile
-  judged false verdict c s xs = powered c s
-  judged true true c s xs =
+  -- Kind 12. Not begun: nothing changes. Accepted: the bytes are the new cryptogram, the counter is full again, authentication is
+  -- granted. Denied: authentication is idle, and the card stays. Zone and active password stay in every case.
+  abbrev pub judged : Judgement → List ℕ → Volatile → List ℕ → Powered Volatile
+  judged notBegun c s xs = powered c s
+  judged accepted c s xs =
       powered (set (stores (λ i old new. new) (D .cryptogramCell) xs 0 c) (D .attemptsAt) fullCounter) (authenticating s granted)
-  judged true false c s xs = powered c (authenticating s idle)
+  judged denied c s xs = powered c (authenticating s idle)
 
   unfoldable pub apply : List ℕ → Volatile → Command → Acted Volatile
+  -- 1: the state is that of power-up; the card stays
   apply c s powerCycle = acted c powerUp []
+  -- 2: no password is active and authentication is idle; the zone and the card stay
   apply c s reset =
       acted c (authenticating (activating s none) idle) (tab (λ k. D .sent (at c (D .resetByte k))) (D .resetCount))
+  -- 3: another zone; all else stays
   apply c s (select z) = acted c (selecting s z) []
+  -- 4 and 6: bytes are answered; card and state stay
   apply c s (readZone a n) = acted c s (tab (λ k. shown c s (D .zoneByte (s .zone) a k)) n)
+  -- 5 and 7: the bytes that may be written; every other byte and the state stay
   apply c s (writeZone a xs) = acted (stores (kept (rules c) s) (D .zoneCell (s .zone) a) xs 0 c) s []
   apply c s (readConfiguration a n) = acted c s (tab (λ k. shown c s (D .configurationByte a k)) n)
   apply c s (writeConfiguration a xs) = acted (stores (kept (rules c) s) (D .configurationCell a) xs 0 c) s []
+  -- 8: the fuse byte is answered; card and state stay
   apply c s readFuses = acted c s (at c (D .fuseAt) ∷ [])
+  -- 9: one more fuse is blown, for whom it is allowed; every other byte and the state stay
   apply c s writeFuses = acted (cond (D .mayBlow s) (set c (D .fuseAt) (D .blow (at c (D .fuseAt)))) c) s []
-  apply c s (verifyPassword k xs) = silent (presented (eqb (at c (D .counterAt k)) 0) (sameList xs (password c k)) c s k)
+  -- 10 to 12, as said above
+  apply c s (verifyPassword k xs) = silent (presented (attemptOf (eqb (at c (D .counterAt k)) 0) (sameList xs (password c k))) c s k)
   apply c s beginAuthentication = silent (started (eqb (at c (D .attemptsAt)) 0) c s)
-  apply c s (verifyAuthentication v xs) = silent (judged (isBegun (s .authentication)) v c s xs)
+  apply c s (verifyAuthentication v xs) = silent (judged (judgementOf (isBegun (s .authentication)) v) c s xs)

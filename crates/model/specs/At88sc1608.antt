@@ -3,6 +3,7 @@ use Prim.Native.Nat.{ℕ, _+_, _-_, _*_, _/_, _%_}
 use mathlib.Core.Bool.{Bool, false, cond}
 use mathlib.Core.List.{List}
 use lib.Dec.{ltb, eqb}
+use Rattle.model.specs.Sizes.{cardSize, fuseAt}
 use Rattle.model.specs.Lists.{at}
 use Rattle.model.specs.Bits.{reversed, spentCounter}
 use Rattle.model.specs.Volatile.{Volatile, isActive}
@@ -11,12 +12,9 @@ use Rattle.model.specs.Access.{zoneReadable, zoneWritable, zoneMerge, co
 
 -- ---- the map
 
--- where the configuration starts, and where the fuse byte lies
+-- where the configuration starts
 abbrev pub configurationAt : ℕ
 configurationAt = 2048
-
-abbrev pub fuseAt : ℕ
-fuseAt = 2176
 
 -- the access register of a zone: $10 on
 abbrev pub registerAt : ℕ → ℕ
@@ -74,7 +72,7 @@ blow f = cond (eqb f 7) 6 (cond (eqb f 6) 4 0)
 abbrev pub at88sc1608 : Device
 at88sc1608 =
     record {
-      size = 2177;
+      size = cardSize;
       zones = 8;
       selectors = 16;
       fuseAt = fuseAt;

@@ -43,7 +43,7 @@ pub data Decoded (K : Type 0) : Type 0 where
 -- what a call gives back: the refusal's number or 0, the response's length, the volatile state, the whole response space
 pub record Reply (S : Type 0) : Type 0 where
   pub refusal : ℕ
-  pub length : ℕ
+  pub size : ℕ
   pub state : S
   pub space : List ℕ
 
@@ -62,14 +62,14 @@ calling sent space = record { sent = sent; space = space }
 
 -- a refusal gives its number and length 0, hands the state back and changes nothing
 abbrev pub refusing : {S : Type 0} → ℕ → S → List ℕ → Reply S
-refusing n s space = record { refusal = n; length = 0; state = s; space = space }
+refusing n s space = record { refusal = n; size = 0; state = s; space = space }
 
 -- an accepted call writes its answer at the front of the space and keeps the rest
 abbrev pub replying : {S : Type 0} → List ℕ → Report S → Reply S
 replying space r =
     record {
       refusal = 0;
-      length = length (r .answer);
+      size = length (r .answer);
       state = r .state;
       space = r .answer ++ drop (length (r .answer)) space;
     }

@@ -2,38 +2,14 @@
 -- one theorem.
 use Prim.Native.Nat.{ℕ, _+_}
 use mathlib.Core.Bool.{Bool, cond}
-use mathlib.Core.List.{List, [], _∷_, _++_, map}
+use mathlib.Core.List.{List, [], _∷_, map}
 use mathlib.Core.Path.{_≡_, refl}
 use lib.ListN.{getD, set, replicate}
 use Rattle.model.specs.Lists.{at}
-use Rattle.model.specs.Volatile.{Volatile, Active, none, selector, powerUp}
-use Rattle.model.specs.Call.{Call, Powered}
 use Rattle.model.specs.Access.{wpe, rpe, ate, passwordSet, mdf, pgo}
 use Rattle.model.specs.At88sc1608.{registerAt, counterAt, configurationAt}
-use Rattle.model.specs.Single.{replies, final}
+use Rattle.model.specs.Trials.{blank, spaces, left, activeNumber, Case}
 use Rattle.model.specs.Computed.{computed}
-
--- a card of $FF bytes with the fuse byte f
-abbrev blank : ℕ → List ℕ
-blank f = replicate 2176 0xFF ++ (f ∷ [])
-
--- records, each with a response space of four bytes that hold $99, sent to a card that was just powered up
-abbrev call : List ℕ → Call
-call bytes = record { sent = bytes; space = replicate 4 0x99 }
-
-abbrev on : List ℕ → Powered Volatile
-on c = record { card = c; state = powerUp }
-
-abbrev spaces : List ℕ → List (List ℕ) → List (List ℕ)
-spaces c records = map (λ r. r .space) (replies (map call records) (on c))
-
-abbrev left : List ℕ → List (List ℕ) → Powered Volatile
-left c records = final (map call records) (on c)
-
--- numbers for what a row shows
-abbrev activeNumber : Active → ℕ
-activeNumber none = 0
-activeNumber (selector k) = 1 + k
 
 abbrev flag : Bool → ℕ
 flag b = cond b 1 0
@@ -55,10 +31,6 @@ fields r = flag (wpe r) ∷ flag (rpe r) ∷ flag (ate r) ∷ passwordSet r ∷ 
 -- no password active, and a counter
 abbrev answered : ℕ → List ℕ
 answered pac = 0 ∷ pac ∷ 0x99 ∷ 0x99 ∷ 0x99 ∷ []
-
--- what a row shows: what the model gives, and what the paper says
-abbrev pub Case : Type 0
-Case = List (List ℕ) × List (List ℕ)
 
 unfoldable pub cases : List Case
 cases =

@@ -43,3 +43,12 @@ pub record Device : Type 0 where
   -- who may blow a fuse, and the fuse byte after that
   pub mayBlow : Volatile → Bool
   pub blow : ℕ → ℕ
+
+-- the attempts counters: that of a selector's password, and that of authentication
+pub data Counter : Type 0 where
+  ofPassword : ℕ → Counter
+  ofAuthentication : Counter
+
+abbrev pub counterPlace : Device → Counter → ℕ
+counterPlace D (ofPassword k) = D .counterAt k
+counterPlace D ofAuthentication = D .attemptsAt

@@ -1,28 +1,23 @@
--- The model of the card, bottom up.
+-- The model of the card, bottom up: definitions alone, and the paper's cases.
+pub mod Sizes
 pub mod Lists
+pub mod Numbers
+pub mod Bits
+pub mod Reversal
 pub mod Refusal
 pub mod Volatile
 pub mod Command
 pub mod Device
 pub mod Call
 pub mod Apply
-pub mod Bits
 pub mod Access
 pub mod At88sc1608
 pub mod Record
 pub mod Single
-pub mod Tables
-pub mod Reversal
-pub mod Effects
-pub mod CallLaws
-pub mod RecordLaws
-pub mod Sane
-pub mod AccessLaws
-pub mod Numbers
 pub mod Reader
-pub mod ReaderLaws
 pub mod Log
 pub mod Session
-pub mod Loops
 pub mod Computed
+pub mod Trials
 pub mod Cases
+pub mod Mistakes

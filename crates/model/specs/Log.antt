@@ -5,9 +5,10 @@ use mathlib.Core.List.{List, [], _∷_, _++_}
 use mathlib.Core.Path.{_≡_}
 use lib.Dec.{ltb, leb, eqb}
 use lib.ListN.{length, take, drop}
+use Rattle.model.specs.Sizes.{cardSize, fuseAt, trailerSize, leastLog, mostRecords}
 use Rattle.model.specs.Lists.{at}
 use Rattle.model.specs.Numbers.{bytesOf, numberAt}
-use Rattle.model.specs.Record.{known}
+use Rattle.model.specs.Record.{known, lengthFits}
 use Rattle.model.specs.Refusal.{notALog, noSuchAnswer}
 use Rattle.model.specs.Single.{isFuseByte}
 
@@ -34,23 +35,17 @@ logTrailer offset count = bytesOf 4 offset ++ (bytesOf 2 count ++ (0x4C ∷ 0x4F
 abbrev pub logBytes : List Entry → List ℕ → List ℕ
 logBytes es card = entriesBytes es ++ (card ++ logTrailer (length (entriesBytes es)) (length es))
 
--- the length of a response to a kind: 4 for 2, 1-256 for 4, 1-128 for 6, 1 for 8, else 0
-unfoldable pub lengthFits : ℕ → ℕ → Bool
-lengthFits kind n =
-    cond (eqb kind 2) (eqb n 4)
-    (cond (eqb kind 4) (leb 1 n && leb n 256)
-    (cond (eqb kind 6) (leb 1 n && leb n 128) (cond (eqb kind 8) (eqb n 1) (eqb n 0))))
-
+-- every entry has a known kind and a response of a length that its kind may have
 abbrev pub AllFit : List Entry → Type 0
 AllFit [] = Unit {0}
 AllFit (e ∷ es) = (known (e .kind) ≡ true) × (lengthFits (e .kind) (length (e .response)) ≡ true) × AllFit es
 
 -- what a log is the writing of
 pub record LaidOut (es : List Entry) (card l : List ℕ) : Type 0 where
-  pub few : length es ≤ 4096
+  pub few : length es ≤ mostRecords
   pub fit : AllFit es
-  pub long : length card ≡ 2177
-  pub stage : isFuseByte (at card 2176) ≡ true
+  pub long : length card ≡ cardSize
+  pub stage : isFuseByte (at card fuseAt) ≡ true
   pub same : l ≡ logBytes es card
 
 -- ---- the check, by places in the log
@@ -59,7 +54,7 @@ abbrev pub countOf : List ℕ → ℕ
 countOf l = numberAt l (length l - 4) 2
 
 abbrev pub offsetOf : List ℕ → ℕ
-offsetOf l = numberAt l (length l - 8) 4
+offsetOf l = numberAt l (length l - trailerSize) 4
 
 -- the response's length of the entry at a place, and the place past that entry
 abbrev pub lengthAt : List ℕ → ℕ → ℕ
@@ -80,10 +75,10 @@ entriesOk (suc n) l i end = entryOk l i end && entriesOk n l (nextEntry l i) end
 -- the trailer and the card before it
 unfoldable pub trailerOk : List ℕ → Bool
 trailerOk l =
-    leb 2185 (length l)
+    leb leastLog (length l)
     && (eqb (at l (length l - 2)) 0x4C
     && (eqb (at l (length l - 1)) 0x4F
-    && (leb (countOf l) 4096 && (eqb (offsetOf l + 2185) (length l) && isFuseByte (at l (offsetOf l + 2176))))))
+    && (leb (countOf l) mostRecords && (eqb (offsetOf l + leastLog) (length l) && isFuseByte (at l (offsetOf l + fuseAt))))))
 
 unfoldable pub valid : List ℕ → Bool
 valid l = trailerOk l && entriesOk (countOf l) l 0 (offsetOf l)
@@ -98,15 +93,15 @@ entryPlace (suc k) l i = entryPlace k l (nextEntry l i)
 -- a refusal's number, or where an answer begins and how long it is
 pub data Found : Type 0 where
   missing : ℕ → Found
-  lies : ℕ → ℕ → Found
+  located : ℕ → ℕ → Found
 
 -- 13, 14, or where answer k lies
 unfoldable pub find : List ℕ → ℕ → Found
 find l k =
     cond (not (valid l)) (missing notALog)
-    (cond (not (ltb k (countOf l))) (missing noSuchAnswer) (lies (entryPlace k l 0 + 3) (lengthAt l (entryPlace k l 0))))
+    (cond (not (ltb k (countOf l))) (missing noSuchAnswer) (located (entryPlace k l 0 + 3) (lengthAt l (entryPlace k l 0))))
 
 -- its bytes
 abbrev pub answerIn : List ℕ → Found → List ℕ
 answerIn l (missing n) = []
-answerIn l (lies from n) = take n (drop from l)
+answerIn l (located from n) = take n (drop from l)

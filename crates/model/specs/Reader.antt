@@ -2,13 +2,14 @@
 use Prim.Native.Nat.{ℕ, _+_, _-_}
 use mathlib.Core.List.{List}
 use lib.ListN.{length, take, drop}
+use Rattle.model.specs.Sizes.{trailerSize}
 use Rattle.model.specs.Call.{Decoded, refused, whole}
 use Rattle.model.specs.Command.{Command}
 use Rattle.model.specs.Record.{decode}
 
 -- where the records end: where the trailer begins, or at 0 if there are fewer than eight bytes
 abbrev pub recordsEnd : ℕ → ℕ
-recordsEnd n = n - 8
+recordsEnd n = n - trailerSize
 
 -- the part of a session from a place up to that end
 abbrev pub partAt : List ℕ → ℕ → List ℕ

@@ -1,52 +1,91 @@
--- Records ("What each command does", "Sent back with a number"): a kind byte, its fixed fields, its data.
-use Prim.Native.Nat.{ℕ, _+_}
+-- Records ("What each command does", "Sent back with a number"): a kind byte, its fixed fields, its data. The twelve kinds are one
+-- table, from which the decoder and the log's check both read.
+use Prim.Native.Nat.{ℕ, _+_, _-_}
 use mathlib.Core.Bool.{Bool, true, cond, not, _&&_}
-use mathlib.Core.List.{List}
+use mathlib.Core.List.{List, [], _∷_}
 use lib.Dec.{ltb, leb, eqb}
-use lib.ListN.{length, take, drop}
+use lib.ListN.{length, take, drop, getD}
 use Rattle.model.specs.Lists.{at}
 use Rattle.model.specs.Call.{Decoded, refused, whole}
 use Rattle.model.specs.Command.{Command, powerCycle, reset, select, readZone, writeZone, readConfiguration, writeConfiguration, readFuses, writeFuses, verifyPassword, beginAuthentication, verifyAuthentication}
 use Rattle.model.specs.Refusal.{unknownKind, fieldOutOfRange, cutShort}
 
+-- ---- the kinds
+
+-- a row: how many fixed fields of one byte a kind has; which values of them, a and then n, are in range; how many data bytes follow,
+-- by n; the command that fields and data make; which lengths a response to it may have in a log
+pub record Kind : Type 0 where
+  pub fixed : ℕ
+  pub range : ℕ → ℕ → Bool
+  pub follow : ℕ → ℕ
+  pub make : ℕ → ℕ → List ℕ → Command
+  pub answers : ℕ → Bool
+
+abbrev row : ℕ → (ℕ → ℕ → Bool) → (ℕ → ℕ) → (ℕ → ℕ → List ℕ → Command) → (ℕ → Bool) → Kind
+row fixed range follow make answers = record { fixed = fixed; range = range; follow = follow; make = make; answers = answers }
+
+-- words for the cells
+abbrev any : ℕ → ℕ → Bool
+any a n = true
+
+abbrev between : ℕ → ℕ → ℕ → Bool
+between least most n = leb least n && leb n most
+
+abbrev exactly : ℕ → ℕ → Bool
+exactly m n = eqb n m
+
+abbrev none : ℕ → ℕ
+none n = 0
+
+unfoldable pub kinds : List Kind
+kinds =
+    -- 1 power cycle, 2 reset
+    row 0 any none (λ a n xs. powerCycle) (exactly 0)
+    ∷ row 0 any none (λ a n xs. reset) (exactly 4)
+    -- 3 select: a zone
+    ∷ row 1 (λ a n. leb a 7) none (λ a n xs. select a) (exactly 0)
+    -- 4 read zone: an address and a count, of which 0 stands for 256
+    ∷ row 2 any none (λ a n xs. readZone a (cond (eqb n 0) 256 n)) (between 1 256)
+    -- 5 write zone: an address, a count, so many bytes
+    ∷ row 2 (λ a n. between 1 16 n) (λ n. n) (λ a n xs. writeZone a xs) (exactly 0)
+    -- 6 read configuration: an address and a count
+    ∷ row 2 (λ a n. leb a 127 && (leb 1 n && leb (a + n) 128)) none (λ a n xs. readConfiguration a n) (between 1 128)
+    -- 7 write configuration: an address, a count, so many bytes
+    ∷ row 2 (λ a n. leb a 127 && between 1 16 n) (λ n. n) (λ a n xs. writeConfiguration a xs) (exactly 0)
+    -- 8 read fuses, 9 write fuses
+    ∷ row 0 any none (λ a n xs. readFuses) (exactly 1)
+    ∷ row 0 any none (λ a n xs. writeFuses) (exactly 0)
+    -- 10 verify password: a selector, three bytes
+    ∷ row 1 (λ a n. leb a 15) (λ n. 3) (λ a n xs. verifyPassword a xs) (exactly 0)
+    -- 11 begin authentication
+    ∷ row 0 any none (λ a n xs. beginAuthentication) (exactly 0)
+    -- 12 verify authentication: the verdict, eight bytes
+    ∷ row 1 (λ a n. leb a 1) (λ n. 8) (λ a n xs. verifyAuthentication (eqb a 1) xs) (exactly 0)
+    ∷ []
+
 abbrev pub known : ℕ → Bool
 known kind = not (eqb kind 0) && leb kind 12
 
--- how many fixed fields of one byte a kind has
+-- the row of a known kind; one without fields, data and answer stands for all others
+abbrev pub rowOf : ℕ → Kind
+rowOf kind = getD kinds (kind - 1) (row 0 any none (λ a n xs. powerCycle) (exactly 0))
+
 unfoldable pub fixedFields : ℕ → ℕ
-fixedFields kind =
-    cond (eqb kind 3) 1
-    (cond (eqb kind 4) 2
-    (cond (eqb kind 5) 2
-    (cond (eqb kind 6) 2 (cond (eqb kind 7) 2 (cond (eqb kind 10) 1 (cond (eqb kind 12) 1 0))))))
+fixedFields kind = rowOf kind .fixed
 
--- whether the fixed fields, a and then n, are in range
 unfoldable pub inRange : ℕ → ℕ → ℕ → Bool
-inRange kind a n =
-    cond (eqb kind 3) (leb a 7)
-    (cond (eqb kind 5) (leb 1 n && leb n 16)
-    (cond (eqb kind 6) (leb a 127 && (leb 1 n && leb (a + n) 128))
-    (cond (eqb kind 7) (leb a 127 && (leb 1 n && leb n 16)) (cond (eqb kind 10) (leb a 15) (cond (eqb kind 12) (leb a 1) true)))))
+inRange kind a n = rowOf kind .range a n
 
--- how many data bytes follow the fixed fields
 unfoldable pub dataLength : ℕ → ℕ → ℕ
-dataLength kind n =
-    cond (eqb kind 5) n (cond (eqb kind 7) n (cond (eqb kind 10) 3 (cond (eqb kind 12) 8 0)))
+dataLength kind n = rowOf kind .follow n
 
--- the command of a kind with its fixed fields and its data; a count of 0 stands for 256 in kind 4
 unfoldable pub made : ℕ → ℕ → ℕ → List ℕ → Command
-made kind a n xs =
-    cond (eqb kind 1) powerCycle
-    (cond (eqb kind 2) reset
-    (cond (eqb kind 3) (select a)
-    (cond (eqb kind 4) (readZone a (cond (eqb n 0) 256 n))
-    (cond (eqb kind 5) (writeZone a xs)
-    (cond (eqb kind 6) (readConfiguration a n)
-    (cond (eqb kind 7) (writeConfiguration a xs)
-    (cond (eqb kind 8) readFuses
-    (cond (eqb kind 9) writeFuses
-    (cond (eqb kind 10) (verifyPassword a xs)
-    (cond (eqb kind 11) beginAuthentication (verifyAuthentication (eqb a 1) xs)))))))))))
+made kind a n xs = rowOf kind .make a n xs
+
+unfoldable pub lengthFits : ℕ → ℕ → Bool
+lengthFits kind n = rowOf kind .answers n
+
+-- ---- a record at the front of a part
 
 -- where the data start, and where the record ends
 abbrev pub dataAt : List ℕ → ℕ
@@ -55,7 +94,7 @@ dataAt part = 1 + fixedFields (at part 0)
 abbrev pub recordLength : List ℕ → ℕ
 recordLength part = dataAt part + dataLength (at part 0) (at part 2)
 
--- Within a record: no kind byte 8, then 6, fixed fields absent 8, 7, data absent 8.
+-- The five tests in turn: there is a kind byte, it is known, the fixed fields are all there, they are in range, the data are all there.
 unfoldable pub decode : List ℕ → Decoded Command
 decode part =
     cond (eqb (length part) 0) (refused cutShort)

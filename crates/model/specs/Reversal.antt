@@ -1,11 +1,6 @@
--- The reversal as a constant list of 256 bytes: entry b is byte b with its bits in the other order. Its rule at every entry and
--- that it is its own inverse are each one computed test.
-use Prim.Native.Nat.{ℕ, _<_}
+-- The reversal as a constant list of 256 bytes: entry b is byte b with its bits in the other order.
+use Prim.Native.Nat.{ℕ}
 use mathlib.Core.List.{List, [], _∷_}
-use mathlib.Core.Path.{_≡_, refl}
-use Rattle.model.specs.Lists.{at}
-use Rattle.model.specs.Bits.{reversed}
-use Rattle.model.specs.Tables.{agree-at}
 
 unfoldable pub reversals : List ℕ
 reversals =
@@ -26,11 +21,3 @@ reversals =
     ∷ 7 ∷ 135 ∷ 71 ∷ 199 ∷ 39 ∷ 167 ∷ 103 ∷ 231 ∷ 23 ∷ 151 ∷ 87 ∷ 215 ∷ 55 ∷ 183 ∷ 119 ∷ 247
     ∷ 15 ∷ 143 ∷ 79 ∷ 207 ∷ 47 ∷ 175 ∷ 111 ∷ 239 ∷ 31 ∷ 159 ∷ 95 ∷ 223 ∷ 63 ∷ 191 ∷ 127 ∷ 255
     ∷ []
-
-pub reversal-rule : (b : ℕ) → b < 256 → at reversals b ≡ reversed b
-unfolding reversals reversed
-reversal-rule = agree-at (λ b. at reversals b) reversed 256 refl
-
-pub reversal-inverse : (b : ℕ) → b < 256 → at reversals (at reversals b) ≡ b
-unfolding reversals
-reversal-inverse = agree-at (λ b. at reversals (at reversals b)) (λ b. b) 256 refl

@@ -4,6 +4,7 @@ use mathlib.Core.Bool.{Bool, cond, not, _&&_}
 use mathlib.Core.List.{List, [], _∷_, _++_}
 use lib.Dec.{ltb, leb, eqb}
 use lib.ListN.{length, take, drop}
+use Rattle.model.specs.Sizes.{cardSize, fuseAt, trailerSize, leastSession, greatestSession, mostRecords}
 use Rattle.model.specs.Lists.{at}
 use Rattle.model.specs.Numbers.{numberAt}
 use Rattle.model.specs.Volatile.{Volatile, powerUp}
@@ -17,30 +18,30 @@ use Rattle.model.specs.Single.{isFuseByte, apply}
 -- ---- the frame: the card, free text, the records, the trailer
 
 abbrev pub cardOf : List ℕ → List ℕ
-cardOf s = take 2177 s
+cardOf s = take cardSize s
 
 -- the trailer: the start of the records, their count, $53 $45
 abbrev pub startOf : List ℕ → ℕ
-startOf s = numberAt s (length s - 8) 4
+startOf s = numberAt s (length s - trailerSize) 4
 
 abbrev pub countOf : List ℕ → ℕ
 countOf s = numberAt s (length s - 4) 2
 
 -- 1 to 5, each by itself
 abbrev pub wrongLength : List ℕ → Bool
-wrongLength s = not (leb 2185 (length s) && leb (length s) 65536)
+wrongLength s = not (leb leastSession (length s) && leb (length s) greatestSession)
 
 abbrev pub wrongTrailer : List ℕ → Bool
 wrongTrailer s = not (eqb (at s (length s - 2)) 0x53 && eqb (at s (length s - 1)) 0x45)
 
 abbrev pub wrongStart : List ℕ → Bool
-wrongStart s = not (leb 2177 (startOf s) && leb (startOf s) (length s - 8))
+wrongStart s = not (leb cardSize (startOf s) && leb (startOf s) (length s - trailerSize))
 
 abbrev pub wrongCount : List ℕ → Bool
-wrongCount s = ltb 4096 (countOf s)
+wrongCount s = ltb mostRecords (countOf s)
 
 abbrev pub wrongFuses : List ℕ → Bool
-wrongFuses s = not (isFuseByte (at s 2176))
+wrongFuses s = not (isFuseByte (at s fuseAt))
 
 -- in this order; 0 where none of them applies
 unfoldable pub frame : List ℕ → ℕ
@@ -111,17 +112,17 @@ logOf s ks = logBytes (entriesOf ks (initial s)) (endOf ks (initial s) .card)
 
 pub record Ran : Type 0 where
   pub refusal : ℕ
-  pub length : ℕ
+  pub size : ℕ
   pub space : List ℕ
 
 abbrev pub rejected : ℕ → List ℕ → Ran
-rejected n space = record { refusal = n; length = 0; space = space }
+rejected n space = record { refusal = n; size = 0; space = space }
 
 -- 10, or the log at the front of the space
 abbrev pub written : List ℕ → List ℕ → Ran
 written log space =
     cond (ltb (length space) (length log)) (rejected noSpace space)
-    (record { refusal = 0; length = length log; space = log ++ drop (length log) space })
+    (record { refusal = 0; size = length log; space = log ++ drop (length log) space })
 
 -- 9, or the run
 abbrev pub ended : List ℕ → List ℕ → Read → Ran

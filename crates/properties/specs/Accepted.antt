@@ -8,14 +8,16 @@ use borrow.Author.Tests.{eqb-true, leb-true, ltb-false, not-false, eq-eqb, le-lt
 use lib.Dec.{ltb, leb, eqb}
 use lib.ListN.{length, drop}
 use lib.Seq.{length-take-le, getD-take}
-use Rattle.model.specs.Lists.{at, and-left, and-right}
+use Rattle.model.specs.Sizes.{cardSize, fuseAt, trailerSize, leastSession, greatestSession, mostRecords}
+use Rattle.model.specs.Lists.{at}
+use Rattle.laws.specs.BoolLaws.{and-left, and-right}
 use Rattle.model.specs.Volatile.{powerUp}
 use Rattle.model.specs.Command.{Command}
 use Rattle.model.specs.Call.{Decoded, refused, whole}
-use Rattle.model.specs.CallLaws.{clear}
+use Rattle.laws.specs.CallLaws.{clear}
 use Rattle.model.specs.Reader.{recordsEnd, partAt, nextOf}
 use Rattle.model.specs.Refusal.{bytesLeft, noSpace}
-use Rattle.model.specs.Sane.{Good}
+use Rattle.laws.specs.Sane.{Good}
 use Rattle.model.specs.Session.{cardOf, startOf, countOf, wrongLength, wrongTrailer, wrongStart, wrongCount, wrongFuses, frame, Read, stopped, all, onDecoded, more, readFrom, logOf, Ran, rejected, written, ended, framed, run}
 use Rattle.model.specs.Single.{isFuseByte}
 use Rattle.properties.specs.SessionLaws.{refusal-nonzero}
@@ -23,14 +25,14 @@ use Rattle.properties.specs.SessionLaws.{refusal-nonzero}
 -- ---- the frame
 
 pub record Framed (s : List ℕ) : Type 0 where
-  pub long : 2185 ≤ length s
-  pub short : length s ≤ 65536
+  pub long : leastSession ≤ length s
+  pub short : length s ≤ greatestSession
   pub first : at s (length s - 2) ≡ 0x53
   pub second : at s (length s - 1) ≡ 0x45
-  pub low : 2177 ≤ startOf s
-  pub high : startOf s ≤ length s - 8
-  pub few : countOf s ≤ 4096
-  pub stage : isFuseByte (at s 2176) ≡ true
+  pub low : cardSize ≤ startOf s
+  pub high : startOf s ≤ length s - trailerSize
+  pub few : countOf s ≤ mostRecords
+  pub stage : isFuseByte (at s fuseAt) ≡ true
 
 pub framed-well : (s : List ℕ) → frame s ≡ 0 → Framed s
 unfolding frame
@@ -44,12 +46,12 @@ framed-well s e =
     let q₂ = not-false _ (p₂ .0) in
     let q₃ = not-false _ (p₃ .0) in
     record {
-      long = leb-true _ _ (and-left (leb 2185 (length s)) _ q₁);
-      short = leb-true _ _ (and-right (leb 2185 (length s)) _ q₁);
+      long = leb-true _ _ (and-left (leb leastSession (length s)) _ q₁);
+      short = leb-true _ _ (and-right (leb leastSession (length s)) _ q₁);
       first = eqb-true _ _ (and-left (eqb (at s (length s - 2)) 0x53) _ q₂);
       second = eqb-true _ _ (and-right (eqb (at s (length s - 2)) 0x53) _ q₂);
-      low = leb-true _ _ (and-left (leb 2177 (startOf s)) _ q₃);
-      high = leb-true _ _ (and-right (leb 2177 (startOf s)) _ q₃);
+      low = leb-true _ _ (and-left (leb cardSize (startOf s)) _ q₃);
+      high = leb-true _ _ (and-right (leb cardSize (startOf s)) _ q₃);
       few = ltb-false _ _ (p₄ .0);
       stage = not-false _ (p₅ .0);
     }
@@ -72,8 +74,8 @@ well-framed s f =
 pub card-good : (s : List ℕ) → Framed s → Good (cardOf s) powerUp
 card-good s f =
     record {
-      long = length-take-le 2177 s (let l = f .long in omega arith);
-      stage = rw (getD-take 2177 s 2176 0 (omega arith)) (f .stage);
+      long = length-take-le cardSize s (let l = f .long in omega arith);
+      stage = rw (getD-take cardSize s fuseAt 0 (omega arith)) (f .stage);
       range = refl;
     }
 
@@ -102,7 +104,7 @@ pub record Accepts (s space : List ℕ) (ks : List Command) : Type 0 where
 
 -- what is then given back and left
 abbrev pub accepting : List ℕ → List ℕ → Ran
-accepting log space = record { refusal = 0; length = length log; space = log ++ drop (length log) space }
+accepting log space = record { refusal = 0; size = length log; space = log ++ drop (length log) space }
 
 pub run-accepted : (s space : List ℕ) (ks : List Command) → Accepts s space ks → run s space ≡ accepting (logOf s ks) space
 unfolding run

@@ -8,7 +8,9 @@ use borrow.Author.Tests.{leb-true, not-false}
 use lib.Dec.{leb}
 use lib.ListN.{length, take, drop, length-drop}
 use lib.Seq.{ext-getD, getD-drop}
-use Rattle.model.specs.Lists.{at, and-left}
+use Rattle.model.specs.Sizes.{fuseAt, trailerSize, leastSession, greatestSession}
+use Rattle.model.specs.Lists.{at}
+use Rattle.laws.specs.BoolLaws.{and-left}
 use Rattle.model.specs.Numbers.{numberAt}
 use Rattle.model.specs.Command.{Command}
 use Rattle.model.specs.Call.{Decoded, refused, whole}
@@ -23,20 +25,20 @@ use Rattle.properties.specs.AsCalls.{callOf, callsFrom}
 abbrev rest : List ℕ → ℕ
 rest s = cond (wrongTrailer s) sessionTrailer (cond (wrongStart s) startOutOfRange (cond (wrongCount s) tooManyRecords (cond (wrongFuses s) fuseByte 0)))
 
-module _ (hidden : ℕ → Bool) (in-card : (i : ℕ) → 2176 ≤ i → hidden i ≡ false) (s₁ s₂ : List ℕ) (agree : AgreeOutside hidden s₁ s₂) where
-  same-from : (i : ℕ) → 2176 ≤ i → drop i s₁ ≡ drop i s₂
+module _ (hidden : ℕ → Bool) (in-card : (i : ℕ) → fuseAt ≤ i → hidden i ≡ false) (s₁ s₂ : List ℕ) (agree : AgreeOutside hidden s₁ s₂) where
+  same-from : (i : ℕ) → fuseAt ≤ i → drop i s₁ ≡ drop i s₂
   same-from i h =
       ext-getD 0 (drop i s₁) (drop i s₂) (length-drop i s₁ ∙ ap (λ (n : ℕ). n - i) (agree .long) ∙ sym (length-drop i s₂))
       (λ k l. getD-drop i s₁ k 0 ∙ agree .same (i + k) (in-card (i + k) (omega arith)) ∙ sym (getD-drop i s₂ k 0))
 
-  part-same : (i : ℕ) → 2176 ≤ i → partAt s₁ i ≡ partAt s₂ i
+  part-same : (i : ℕ) → fuseAt ≤ i → partAt s₁ i ≡ partAt s₂ i
   part-same i h = λ t. take (recordsEnd (agree .long t) - i) (same-from i h t)
 
-  number-same : (w i : ℕ) → 2176 ≤ i → numberAt s₁ i w ≡ numberAt s₂ i w
+  number-same : (w i : ℕ) → fuseAt ≤ i → numberAt s₁ i w ≡ numberAt s₂ i w
   number-same zero i h = refl
   number-same (suc w) i h = λ t. agree .same i (in-card i h) t + 256 * number-same w (suc i) (omega arith) t
 
-  pub read-same : (n i : ℕ) → 2176 ≤ i → readFrom n s₁ i ≡ readFrom n s₂ i
+  pub read-same : (n i : ℕ) → fuseAt ≤ i → readFrom n s₁ i ≡ readFrom n s₂ i
   read-same zero i h = refl
   read-same (suc n) i h =
       ap (λ (p : List ℕ). onDecoded (decode p) stopped (λ k m. more k (readFrom n s₁ (i + m)))) (part-same i h)
@@ -47,16 +49,16 @@ module _ (hidden : ℕ → Bool) (in-card : (i : ℕ) → 2176 ≤ i → hidden 
       go ih (refused r) = refl
       go ih (whole k m) = ap (more k) (ih m)
 
-  pub calls-same : (n i : ℕ) → 2176 ≤ i → callsFrom n s₁ i ≡ callsFrom n s₂ i
+  pub calls-same : (n i : ℕ) → fuseAt ≤ i → callsFrom n s₁ i ≡ callsFrom n s₂ i
   calls-same zero i h = refl
   calls-same (suc n) i h =
       λ t. callOf (part-same i h t) ∷ (ap (λ (p : List ℕ). callsFrom n s₁ (i + recordLength p)) (part-same i h) ∙ calls-same n (i + recordLength (partAt s₂ i)) (omega arith)) t
 
   -- ---- the frame
 
-  module _ (long : 2185 ≤ length s₁) where
+  module _ (long : leastSession ≤ length s₁) where
     pub start-same : startOf s₁ ≡ startOf s₂
-    start-same = number-same 4 (length s₁ - 8) (omega arith) ∙ ap (λ (n : ℕ). numberAt s₂ (n - 8) 4) (agree .long)
+    start-same = number-same 4 (length s₁ - trailerSize) (omega arith) ∙ ap (λ (n : ℕ). numberAt s₂ (n - trailerSize) 4) (agree .long)
 
     pub count-same : countOf s₁ ≡ countOf s₂
     count-same = number-same 2 (length s₁ - 4) (omega arith) ∙ ap (λ (n : ℕ). numberAt s₂ (n - 4) 2) (agree .long)
@@ -65,13 +67,13 @@ module _ (hidden : ℕ → Bool) (in-card : (i : ℕ) → 2176 ≤ i → hidden 
     byte-same k h = agree .same (length s₁ - k) (in-card (length s₁ - k) (omega arith)) ∙ ap (λ (n : ℕ). at s₂ (n - k)) (agree .long)
 
     rest-same : rest s₁ ≡ rest s₂
-    rest-same = rw (byte-same 2 (omega arith), byte-same 1 (omega arith), start-same, count-same, agree .long, agree .same 2176 (in-card 2176 (omega arith)))
+    rest-same = rw (byte-same 2 (omega arith), byte-same 1 (omega arith), start-same, count-same, agree .long, agree .same fuseAt (in-card fuseAt (omega arith)))
 
   pub frame-same : frame s₁ ≡ frame s₂
   unfolding frame
   frame-same =
-      go (wrongLength s₁) refl ∙ ap (λ (n : ℕ). cond (not (leb 2185 n && leb n 65536)) sessionLength (rest s₂)) (agree .long)
+      go (wrongLength s₁) refl ∙ ap (λ (n : ℕ). cond (not (leb leastSession n && leb n greatestSession)) sessionLength (rest s₂)) (agree .long)
     where
       go : (t : Bool) → wrongLength s₁ ≡ t → cond t sessionLength (rest s₁) ≡ cond t sessionLength (rest s₂)
       go true e = refl
-      go false e = rest-same (leb-true _ _ (and-left (leb 2185 (length s₁)) _ (not-false _ e)))
+      go false e = rest-same (leb-true _ _ (and-left (leb leastSession (length s₁)) _ (not-false _ e)))

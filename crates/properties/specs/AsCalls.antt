@@ -12,13 +12,13 @@ use Rattle.model.specs.Command.{Command}
 use Rattle.model.specs.At88sc1608.{at88sc1608}
 use Rattle.model.specs.Call.{Powered, Reply, Call, calling, whole, admit, step, carried}
 use Rattle.model.specs.Call as calls
-use Rattle.model.specs.CallLaws.{Admitted, admitted, carried-out}
-use Rattle.model.specs.Effects.{answer-length}
+use Rattle.laws.specs.CallLaws.{Admitted, admitted, carried-out}
+use Rattle.laws.specs.Effects.{answer-length}
 use Rattle.model.specs.Log.{Entry}
 use Rattle.model.specs.Reader.{partAt}
 use Rattle.model.specs.Record.{recordLength, decode}
-use Rattle.model.specs.RecordLaws.{accepted, decode-fields, decode-front}
-use Rattle.model.specs.Sane.{Good, check-good, good-after}
+use Rattle.laws.specs.RecordLaws.{accepted, decode-fields, decode-front}
+use Rattle.laws.specs.Sane.{Good, check-good, good-after}
 use Rattle.model.specs.Session.{readFrom, all, kindOf, logged, after, entriesOf, endOf}
 use Rattle.model.specs.Single.{check, apply, command, replies, final}
 use Rattle.secrecy.specs.TwoRuns.{Along}
@@ -37,7 +37,7 @@ callsFrom (suc n) s i = callAt s i ∷ callsFrom n s (i + recordLength (partAt s
 
 -- the entry of a command that gave a reply
 abbrev pub entryFrom : Command → Reply Volatile → Entry
-entryFrom k r = record { kind = kindOf k; response = take (r .length) (r .space) }
+entryFrom k r = record { kind = kindOf k; response = take (r .size) (r .space) }
 
 abbrev pub entriesFrom : List Command → List (Reply Volatile) → List Entry
 entriesFrom [] rs = []
@@ -47,7 +47,7 @@ entriesFrom (k ∷ ks) (r ∷ rs) = entryFrom k r ∷ entriesFrom ks rs
 -- a call's record is admitted as itself
 module _ (s : List ℕ) (i : ℕ) (k : Command) (n : ℕ) (e : decode (partAt s i) ≡ whole k n) (m : Powered Volatile) (g : Good (m .card) (m .state)) where
   length-is : recordLength (partAt s i) ≡ n
-  length-is = accepted (partAt s i) k n e .length
+  length-is = accepted (partAt s i) k n e .size
 
   admits : Admitted check decode apply (m .card) (m .state) (callAt s i) k n
   admits =
@@ -90,14 +90,14 @@ as-calls zero s i ks j e m g = rw (read-none s i ks j e .0) (record { ends = ref
 as-calls (suc n) s i ks j e m g =
     let f = read-first n s i ks j e in
     let k : Command = f .command in
-    let st = steps s i k (f .length) (f .next) m g in
-    let l = accepted (partAt s i) k (f .length) (f .next) .length in
+    let st = steps s i k (f .size) (f .next) m g in
+    let l = accepted (partAt s i) k (f .size) (f .next) .size in
     let r : Same (callsFrom n s (i + recordLength (partAt s i))) (f .others) (after m k) =
-    rw l (as-calls n s (i + f .length) (f .others) j (f .rest) (after m k) (good s i k (f .length) (f .next) m g)) in
+    rw l (as-calls n s (i + f .size) (f .others) j (f .rest) (after m k) (good s i k (f .size) (f .next) m g)) in
     rw (f .list)
     (record {
       ends = ap (final (callsFrom n s (i + recordLength (partAt s i)))) st ∙ r .ends;
-      entries = λ t. enters s i k (f .length) (f .next) m g t
+      entries = λ t. enters s i k (f .size) (f .next) m g t
           ∷ (ap (λ (x : Powered Volatile). entriesFrom (f .others) (replies (callsFrom n s (i + recordLength (partAt s i))) x)) st ∙ r .entries) t;
-      along = λ Ok o. (carries s i k (f .length) (f .next) m g Ok (o .0), rw st (r .along Ok (o .1)));
+      along = λ Ok o. (carries s i k (f .size) (f .next) m g Ok (o .0), rw st (r .along Ok (o .1)));
     })

@@ -10,16 +10,19 @@ use borrow.Author.Tests.{leb-true, not-false}
 use lib.Dec.{ltb, leb, eqb}
 use lib.ListN.{length, take, drop, length-append}
 use lib.Seq.{length-take-le}
-use Rattle.model.specs.Lists.{at, and-left}
+use Rattle.model.specs.Sizes.{cardSize, leastSession, leastLog}
+use Rattle.model.specs.Lists.{at}
+use Rattle.laws.specs.BoolLaws.{and-left}
 use Rattle.model.specs.Volatile.{Volatile}
 use Rattle.model.specs.Command.{Command}
 use Rattle.model.specs.At88sc1608.{at88sc1608}
 use Rattle.model.specs.Call.{Powered, Decoded, refused, whole}
-use Rattle.model.specs.Effects.{answerLength}
+use Rattle.laws.specs.Effects.{answerLength}
 use Rattle.model.specs.Log.{entriesBytes}
 use Rattle.model.specs.Reader.{recordsEnd, partAt, nextOf}
-use Rattle.model.specs.Record.{known, inRange, dataLength, made, dataAt, recordLength, decode}
-use Rattle.model.specs.RecordLaws.{accepted, each-kind}
+use Rattle.model.specs.Record.{kinds, known, inRange, dataLength, made, dataAt, recordLength, decode}
+use Rattle.laws.specs.KindLaws.{each-kind}
+use Rattle.laws.specs.RecordLaws.{accepted}
 use Rattle.model.specs.Refusal.{sessionLength, sessionTrailer, startOutOfRange, tooManyRecords, fuseByte, unknownKind, fieldOutOfRange, cutShort, bytesLeft, noSpace}
 use Rattle.model.specs.Session.{startOf, countOf, wrongLength, wrongTrailer, wrongStart, wrongCount, wrongFuses, frame, Read, stopped, all, onDecoded, more, readFrom, after, entriesOf, logOf, rejected, ended, framed, run, initial}
 use Rattle.properties.specs.SessionLaws.{read-first, read-none, entry-length, end-length}
@@ -77,7 +80,7 @@ entriesLength (suc n) s i = 3 + responseLength (partAt s i) + entriesLength n s 
 
 -- the log: the entries, the card, the trailer
 abbrev pub logLength : List ℕ → ℕ
-logLength s = entriesLength (countOf s) s (startOf s) + 2185
+logLength s = entriesLength (countOf s) s (startOf s) + leastLog
 
 -- 9 and 10
 abbrev pub lastConditions : List ℕ → List ℕ → List Condition
@@ -140,7 +143,7 @@ first-record part n d e = go (eqb (length part) 0) (not (known (at part 0))) (lt
     go false false false false false = refl
 
 made-answer : (a n : ℕ) (xs : List ℕ) (kind : ℕ) → known kind ≡ true → answerLength at88sc1608 (made kind a n xs) ≡ cond (eqb kind 2) 4 (cond (eqb kind 4) (cond (eqb n 0) 256 n) (cond (eqb kind 6) n (cond (eqb kind 8) 1 0)))
-unfolding made
+unfolding kinds made
 made-answer a n xs = each-kind (λ kind. answerLength at88sc1608 (made kind a n xs) ≡ cond (eqb kind 2) 4 (cond (eqb kind 4) (cond (eqb n 0) 256 n) (cond (eqb kind 6) n (cond (eqb kind 8) 1 0)))) refl refl refl refl refl refl refl refl refl refl refl refl
 
 pub decode-answer : (part : List ℕ) (k : Command) (m : ℕ) → decode part ≡ whole k m → answerLength at88sc1608 k ≡ responseLength part
@@ -162,13 +165,13 @@ records-clean zero s i ks j e =
     rw (q .0) (record { none = λ d. refl; place = sym (q .1); entries = λ m. refl })
 records-clean (suc n) s i ks j e =
     let f = read-first n s i ks j e in
-    let r = records-clean n s (i + f .length) (f .others) j (f .rest) in
-    let l : recordLength (partAt s i) ≡ f .length = accepted (partAt s i) (f .command) (f .length) (f .next) .length in
+    let r = records-clean n s (i + f .size) (f .others) j (f .rest) in
+    let l : recordLength (partAt s i) ≡ f .size = accepted (partAt s i) (f .command) (f .size) (f .next) .size in
     rw (f .list) (record {
       none = λ d. first-append (recordConditions (partAt s i)) (recordsConditions n s (i + recordLength (partAt s i))) d
           ∙ first-record (partAt s i) _ _ (f .next) ∙ ap (λ (m : ℕ). first (recordsConditions n s (i + m)) d) l ∙ r .none d;
       place = rw l (r .place);
-      entries = λ m. entry-length (f .command) (f .others) m ∙ rw (l, decode-answer (partAt s i) (f .command) (f .length) (f .next), r .entries (after m (f .command)));
+      entries = λ m. entry-length (f .command) (f .others) m ∙ rw (l, decode-answer (partAt s i) (f .command) (f .size) (f .next), r .entries (after m (f .command)));
     })
 
 -- records of which one is refused
@@ -188,7 +191,7 @@ first-stopped (suc n) s i r e d =
     go ih (refused x) q e = first-record (partAt s i) _ _ q ∙ (let w : x ≡ r = cc in w)
     go ih (whole k m) q e =
         first-record (partAt s i) _ _ q
-        ∙ ap (λ (m : ℕ). first (recordsConditions n s (i + m)) d) (accepted (partAt s i) k m q .length)
+        ∙ ap (λ (m : ℕ). first (recordsConditions n s (i + m)) d) (accepted (partAt s i) k m q .size)
         ∙ ih m (later k (readFrom n s (i + m)) e)
 
 -- ---- the session
@@ -202,12 +205,12 @@ past-frame s space false false false true e = refl
 past-frame s space false false false false true = refl
 past-frame s space false false false false false = refl
 
-log-length : (s : List ℕ) (ks : List Command) (j : ℕ) → 2177 ≤ length s → readFrom (countOf s) s (startOf s) ≡ all ks j → length (logOf s ks) ≡ logLength s
+log-length : (s : List ℕ) (ks : List Command) (j : ℕ) → cardSize ≤ length s → readFrom (countOf s) s (startOf s) ≡ all ks j → length (logOf s ks) ≡ logLength s
 log-length s ks j l e =
-    let c = end-length ks (initial s) ∙ length-take-le 2177 s l in
+    let c = end-length ks (initial s) ∙ length-take-le cardSize s l in
     simp (length-append, records-clean (countOf s) s (startOf s) ks j e .entries (initial s), c)
 
-past-records : (s space : List ℕ) → 2177 ≤ length s → (x : Read) → readFrom (countOf s) s (startOf s) ≡ x
+past-records : (s space : List ℕ) → cardSize ≤ length s → (x : Read) → readFrom (countOf s) s (startOf s) ≡ x
     → ended s space x .refusal ≡ first (recordsConditions (countOf s) s (startOf s)) (first (lastConditions s space) 0)
 past-records s space l (stopped r) e = sym (first-stopped (countOf s) s (startOf s) r e _)
 past-records s space l (all ks j) e =
@@ -215,7 +218,7 @@ past-records s space l (all ks j) e =
     rw (c .none (first (lastConditions s space) 0), c .place)
     (go (eqb (placePast (countOf s) s (startOf s)) (recordsEnd (length s))) (ltb (length space) (length (logOf s ks))) _ (λ i. ltb (length space) (log-length s ks j l e i)))
   where
-    go : (a b c : Bool) → b ≡ c → cond (not a) (rejected bytesLeft space) (cond b (rejected noSpace space) (record { refusal = 0; length = length (logOf s ks); space = logOf s ks ++ drop (length (logOf s ks)) space })) .refusal
+    go : (a b c : Bool) → b ≡ c → cond (not a) (rejected bytesLeft space) (cond b (rejected noSpace space) (record { refusal = 0; size = length (logOf s ks); space = logOf s ks ++ drop (length (logOf s ks)) space })) .refusal
         ≡ cond (not a) bytesLeft (cond c noSpace 0)
     go true true c e = rw (sym e)
     go true false c e = rw (sym e)
@@ -234,7 +237,7 @@ refusal-is s space =
     under : (t : Bool) → wrongLength s ≡ t → cond t 1 (rest (framed s space 0 .refusal)) ≡ cond t 1 (rest (first (recordsConditions (countOf s) s (startOf s) ++ lastConditions s space) 0))
     under true e = refl
     under false e =
-        let l : 2185 ≤ length s = leb-true _ _ (and-left (leb 2185 (length s)) _ (not-false _ e)) in
+        let l : leastSession ≤ length s = leb-true _ _ (and-left (leb leastSession (length s)) _ (not-false _ e)) in
         ap rest (past-records s space (omega arith) (readFrom (countOf s) s (startOf s)) refl ∙ sym (first-append (recordsConditions (countOf s) s (startOf s)) (lastConditions s space) 0))
 
 some : (n : ℕ) → 1 ≤ suc n

@@ -11,12 +11,12 @@ use Rattle.model.specs.Lists.{Bytes}
 use Rattle.model.specs.Volatile.{Volatile}
 use Rattle.model.specs.Command.{Command}
 use Rattle.model.specs.Call.{Powered, reporting, Called, calling, replying, whole}
-use Rattle.model.specs.CallLaws.{Admitted, carried-out}
+use Rattle.laws.specs.CallLaws.{Admitted, carried-out}
 use Rattle.model.specs.Log.{find, answerIn}
 use Rattle.model.specs.Reader.{recordsEnd, partAt, nextOf}
 use Rattle.model.specs.Record.{recordLength, decode}
-use Rattle.model.specs.RecordLaws.{Fields, accepted, decode-front}
-use Rattle.model.specs.Sane.{Good, check-good, good-after}
+use Rattle.laws.specs.RecordLaws.{Fields, accepted, decode-front}
+use Rattle.laws.specs.Sane.{Good, check-good, good-after}
 use Rattle.model.specs.Session.{startOf, countOf, readFrom, all, after, logOf, initial}
 use Rattle.model.specs.Single.{check, apply, command}
 use Rattle.properties.specs.SessionLaws.{Every, read-first}
@@ -34,11 +34,11 @@ pub next-is : (n : ℕ) (s : List ℕ) (i : ℕ) (ks : List Command) (j : ℕ) �
 next-is zero s i ks j e k h = absurd (let z : ⊥ = omega arith in z)
 next-is (suc n) s i ks j e zero h =
     let f = read-first n s i ks j e in
-    rw (f .list) (f .next ∙ ap (whole (f .command)) (sym (accepted (partAt s i) (f .command) (f .length) (f .next) .length)))
+    rw (f .list) (f .next ∙ ap (whole (f .command)) (sym (accepted (partAt s i) (f .command) (f .size) (f .next) .size)))
 next-is (suc n) s i ks j e (suc k) h =
     let f = read-first n s i ks j e in
-    let l : recordLength (partAt s i) ≡ f .length = accepted (partAt s i) (f .command) (f .length) (f .next) .length in
-    rw (f .list, l) (next-is n s (i + f .length) (f .others) j (f .rest) k (le-of-suc-le-suc h))
+    let l : recordLength (partAt s i) ≡ f .size = accepted (partAt s i) (f .command) (f .size) (f .next) .size in
+    rw (f .list, l) (next-is n s (i + f .size) (f .others) j (f .rest) k (le-of-suc-le-suc h))
 
 pub record-is : (s : List ℕ) (i : ℕ) (k : Command) → nextOf s i ≡ whole k (recordLength (partAt s i)) → decode (recordAt s i) ≡ whole k (recordLength (partAt s i))
 record-is s i k e = decode-front (partAt s i) k (recordLength (partAt s i)) e

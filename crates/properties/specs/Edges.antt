@@ -7,47 +7,49 @@ use native.Mathlib.Omega.{arith}
 use borrow.Author.Tests.{lt-leb}
 use lib.ListN.{length, length-append, List·getD-append}
 use lib.Seq.{getD-append-add, take-at}
+use Rattle.model.specs.Sizes.{cardSize, fuseAt, leastSession}
 use Rattle.model.specs.Lists.{at}
 use Rattle.model.specs.Log.{logTrailer}
-use Rattle.model.specs.Numbers.{bytesOf, number-append}
+use Rattle.model.specs.Numbers.{bytesOf}
+use Rattle.laws.specs.NumberLaws.{number-append}
 use Rattle.model.specs.Refusal.{sessionLength}
 use Rattle.model.specs.Session.{cardOf, startOf, countOf, frame, rejected, run}
 use Rattle.model.specs.Single.{isFuseByte}
 use Rattle.properties.specs.Accepted.{well-framed, accepting, run-accepted}
 
-pub short : (s space : List ℕ) → length s < 2185 → run s space ≡ rejected sessionLength space
+pub short : (s space : List ℕ) → length s < leastSession → run s space ≡ rejected sessionLength space
 unfolding run frame
 short s space h = rw (lt-leb _ _ h)
 
 -- a card and a trailer that counts no records
 abbrev pub empty : List ℕ → List ℕ
-empty card = card ++ (bytesOf 4 2177 ++ (bytesOf 2 0 ++ (0x53 ∷ 0x45 ∷ [])))
+empty card = card ++ (bytesOf 4 cardSize ++ (bytesOf 2 0 ++ (0x53 ∷ 0x45 ∷ [])))
 
 -- the log holds the card and a trailer that counts no answers
-pub nothing-run : (card space : List ℕ) → length card ≡ 2177 → isFuseByte (at card 2176) ≡ true → 2185 ≤ length space
+pub nothing-run : (card space : List ℕ) → length card ≡ cardSize → isFuseByte (at card fuseAt) ≡ true → leastSession ≤ length space
     → run (empty card) space ≡ accepting (card ++ logTrailer 0 0) space
 nothing-run card space l f h =
     run-accepted s space []
     (record {
       frames = well;
       reads = rw (count, start, long);
-      room = rw (length-append (cardOf s) (logTrailer 0 0), take-at card tail 2177 l, l) h;
+      room = rw (length-append (cardOf s) (logTrailer 0 0), take-at card tail cardSize l, l) h;
     })
-    ∙ ap (λ (c : List ℕ). accepting (c ++ logTrailer 0 0) space) (take-at card tail 2177 l)
+    ∙ ap (λ (c : List ℕ). accepting (c ++ logTrailer 0 0) space) (take-at card tail cardSize l)
   where
     tail : List ℕ
-    tail = bytesOf 4 2177 ++ (bytesOf 2 0 ++ (0x53 ∷ 0x45 ∷ []))
+    tail = bytesOf 4 cardSize ++ (bytesOf 2 0 ++ (0x53 ∷ 0x45 ∷ []))
 
     s : List ℕ
     s = card ++ tail
 
-    long : length s ≡ 2185
+    long : length s ≡ leastSession
     long = length-append card tail ∙ ap (λ (n : ℕ). n + 8) l
 
-    at-tail : (i : ℕ) → at s (2177 + i) ≡ at tail i
+    at-tail : (i : ℕ) → at s (cardSize + i) ≡ at tail i
     at-tail i = rw l at (getD-append-add card tail i 0)
 
-    start : startOf s ≡ 2177
+    start : startOf s ≡ cardSize
     start = rw long (rw l at (number-append card tail 0 4))
 
     count : countOf s ≡ 0
@@ -64,5 +66,5 @@ nothing-run card space l f h =
           low = rw start (omega arith);
           high = rw (start, long) (omega arith);
           few = rw count (omega arith);
-          stage = rw (List·getD-append card tail 0 2176 (rw l (omega arith))) f;
+          stage = rw (List·getD-append card tail 0 fuseAt (rw l (omega arith))) f;
         })

@@ -10,8 +10,11 @@ use native.Mathlib.Numerals.{add-one}
 use borrow.Author.Tests.{eqb-true}
 use lib.ListN.{length, take, drop, length-drop, take-append-drop}
 use lib.Seq.{drop-cons, drop-drop, take-add, length-take-le, getD-take, getD-drop, take-all}
-use Rattle.model.specs.Lists.{at, Bytes, and-left, and-right}
-use Rattle.model.specs.Numbers.{bytesOf, bytes-number}
+use Rattle.model.specs.Sizes.{cardSize, fuseAt, trailerSize}
+use Rattle.model.specs.Lists.{at, Bytes}
+use Rattle.laws.specs.BoolLaws.{and-left, and-right}
+use Rattle.model.specs.Numbers.{bytesOf}
+use Rattle.laws.specs.NumberLaws.{bytes-number}
 use Rattle.model.specs.Log.{Entry, entryBytes, entriesBytes, logTrailer, AllFit, LaidOut, countOf, offsetOf, lengthAt, nextEntry, entryOk, entriesOk, trailerOk, valid}
 use Rattle.properties.specs.LogLaws.{Entered, entered, Trailed, trailed}
 use Rattle.properties.specs.Written.{written-valid}
@@ -90,7 +93,7 @@ module _ (l : List ℕ) (bytes : Bytes l) where
     entriesOf = parsed (countOf l) l 0
 
     abbrev pub cardOf : List ℕ
-    cardOf = take 2177 (drop (offsetOf l) l)
+    cardOf = take cardSize (drop (offsetOf l) l)
 
     front-bytes : entriesBytes entriesOf ≡ take (offsetOf l) l
     front-bytes =
@@ -99,17 +102,17 @@ module _ (l : List ℕ) (bytes : Bytes l) where
         entries-bytes (countOf l) 0 (offsetOf l) (omega arith) entries-are .1 ∙ ap (λ (k : ℕ). take k l) z
 
     -- the last eight bytes
-    trailer-bytes : logTrailer (offsetOf l) (countOf l) ≡ drop (offsetOf l + 2177) l
+    trailer-bytes : logTrailer (offsetOf l) (countOf l) ≡ drop (offsetOf l + cardSize) l
     trailer-bytes =
         let t = trailer-is in
         let m = t .meets in
-        let a : ℕ = offsetOf l + 2177 in
-        let e₈ : length l - 8 ≡ a = omega arith in
+        let a : ℕ = offsetOf l + cardSize in
+        let e₈ : length l - trailerSize ≡ a = omega arith in
         let e₄ : length l - 4 ≡ a + 4 = omega arith in
         let e₂ : length l - 2 ≡ a + 4 + 2 = omega arith in
         let e₁ : length l - 1 ≡ a + 4 + 2 + 1 = omega arith in
         let four : bytesOf 4 (offsetOf l) ≡ take 4 (drop a l) =
-        bytes-number 4 l (length l - 8) bytes (omega arith) ∙ ap (λ (k : ℕ). take 4 (drop k l)) e₈ in
+        bytes-number 4 l (length l - trailerSize) bytes (omega arith) ∙ ap (λ (k : ℕ). take 4 (drop k l)) e₈ in
         let two : bytesOf 2 (countOf l) ≡ take 2 (drop (a + 4) l) =
         bytes-number 2 l (length l - 4) bytes (omega arith) ∙ ap (λ (k : ℕ). take 2 (drop k l)) e₄ in
         let end₁ : 0x4F ∷ [] ≡ take 1 (drop (a + 4 + 2 + 1) l) =
@@ -127,15 +130,15 @@ module _ (l : List ℕ) (bytes : Bytes l) where
         let o : ℕ = offsetOf l in
         let n : length entriesOf ≡ countOf l = parsed-length (countOf l) l 0 in
         let e : length (entriesBytes entriesOf) ≡ o = ap length front-bytes ∙ length-take-le o l (omega arith) in
-        let d : drop 2177 (drop o l) ≡ logTrailer (length (entriesBytes entriesOf)) (length entriesOf) =
-        drop-drop 2177 o l ∙ sym trailer-bytes ∙ (λ i. logTrailer (sym e i) (sym n i)) in
+        let d : drop cardSize (drop o l) ≡ logTrailer (length (entriesBytes entriesOf)) (length entriesOf) =
+        drop-drop cardSize o l ∙ sym trailer-bytes ∙ (λ i. logTrailer (sym e i) (sym n i)) in
         record {
           few = rw n (t .few);
           fit = all-fit (countOf l) 0 o (omega arith) entries-are;
-          long = length-take-le 2177 (drop o l) (let g = length-drop o l in omega arith);
-          stage = rw (getD-take 2177 (drop o l) 2176 0 (omega arith), getD-drop o l 2176 0) (t .stage);
+          long = length-take-le cardSize (drop o l) (let g = length-drop o l in omega arith);
+          stage = rw (getD-take cardSize (drop o l) fuseAt 0 (omega arith), getD-drop o l fuseAt 0) (t .stage);
           same =
-              sym (take-append-drop o l) ∙ ap (λ (k : List ℕ). take o l ++ k) (sym (take-append-drop 2177 (drop o l)))
+              sym (take-append-drop o l) ∙ ap (λ (k : List ℕ). take o l ++ k) (sym (take-append-drop cardSize (drop o l)))
               ∙ (λ i. sym front-bytes i ++ (cardOf ++ d i));
         }
 

@@ -9,5 +9,5 @@ pub mod ReadBack
 pub mod EachRecord
 pub mod AsCalls
 pub mod Alike
-pub mod Demand3
+pub mod SessionSecrecy
 pub mod Edges

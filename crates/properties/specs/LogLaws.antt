@@ -8,9 +8,11 @@ use native.Mathlib.Omega.{arith}
 use borrow.Author.Tests.{ltb-true, leb-true, eqb-true, le-leb, eq-eqb}
 use lib.Dec.{ltb, leb, eqb}
 use lib.ListN.{length}
-use Rattle.model.specs.Lists.{at, and-left, and-right}
-use Rattle.model.specs.Log.{lengthFits, lengthAt, nextEntry, entryOk, entriesOk, entryPlace, countOf, offsetOf, trailerOk, valid, find, lies, missing}
-use Rattle.model.specs.Record.{known}
+use Rattle.model.specs.Sizes.{fuseAt, leastLog, mostRecords}
+use Rattle.model.specs.Lists.{at}
+use Rattle.laws.specs.BoolLaws.{and-left, and-right}
+use Rattle.model.specs.Log.{lengthAt, nextEntry, entryOk, entriesOk, entryPlace, countOf, offsetOf, trailerOk, valid, find, located, missing}
+use Rattle.model.specs.Record.{known, lengthFits}
 use Rattle.model.specs.Refusal.{notALog, noSuchAnswer}
 use Rattle.model.specs.Single.{isFuseByte}
 
@@ -41,27 +43,27 @@ entry-ends (suc n) l i end e (suc k) h = entry-ends n l (nextEntry l i) end (and
 
 -- a trailer that is well
 pub record Trailed (l : List ℕ) : Type 0 where
-  pub long : 2185 ≤ length l
+  pub long : leastLog ≤ length l
   pub first : at l (length l - 2) ≡ 0x4C
   pub second : at l (length l - 1) ≡ 0x4F
-  pub few : countOf l ≤ 4096
-  pub meets : offsetOf l + 2185 ≡ length l
-  pub stage : isFuseByte (at l (offsetOf l + 2176)) ≡ true
+  pub few : countOf l ≤ mostRecords
+  pub meets : offsetOf l + leastLog ≡ length l
+  pub stage : isFuseByte (at l (offsetOf l + fuseAt)) ≡ true
 
 pub trailed : (l : List ℕ) → trailerOk l ≡ true → Trailed l
 unfolding trailerOk
 trailed l e =
-    let p₁ = and-right (leb 2185 (length l)) _ e in
+    let p₁ = and-right (leb leastLog (length l)) _ e in
     let p₂ = and-right (eqb (at l (length l - 2)) 0x4C) _ p₁ in
     let p₃ = and-right (eqb (at l (length l - 1)) 0x4F) _ p₂ in
-    let p₄ = and-right (leb (countOf l) 4096) _ p₃ in
+    let p₄ = and-right (leb (countOf l) mostRecords) _ p₃ in
     record {
-      long = leb-true _ _ (and-left (leb 2185 (length l)) _ e);
+      long = leb-true _ _ (and-left (leb leastLog (length l)) _ e);
       first = eqb-true _ _ (and-left (eqb (at l (length l - 2)) 0x4C) _ p₁);
       second = eqb-true _ _ (and-left (eqb (at l (length l - 1)) 0x4F) _ p₂);
-      few = leb-true _ _ (and-left (leb (countOf l) 4096) _ p₃);
-      meets = eqb-true _ _ (and-left (eqb (offsetOf l + 2185) (length l)) _ p₄);
-      stage = and-right (eqb (offsetOf l + 2185) (length l)) _ p₄;
+      few = leb-true _ _ (and-left (leb (countOf l) mostRecords) _ p₃);
+      meets = eqb-true _ _ (and-left (eqb (offsetOf l + leastLog) (length l)) _ p₄);
+      stage = and-right (eqb (offsetOf l + leastLog) (length l)) _ p₄;
     }
 
 -- and both the other way round
@@ -80,18 +82,18 @@ pub record Answered (l : List ℕ) (k from n : ℕ) : Type 0 where
   pub start : from ≡ entryPlace k l 0 + 3
   pub size : n ≡ lengthAt l (entryPlace k l 0)
 
-pub answered : (l : List ℕ) (k from n : ℕ) → find l k ≡ lies from n → Answered l k from n
+pub answered : (l : List ℕ) (k from n : ℕ) → find l k ≡ located from n → Answered l k from n
 unfolding find
 answered l k from n e = go (valid l) (ltb k (countOf l)) refl refl e
   where
     go : (v u : Bool) → valid l ≡ v → ltb k (countOf l) ≡ u
-        → cond (not v) (missing notALog) (cond (not u) (missing noSuchAnswer) (lies (entryPlace k l 0 + 3) (lengthAt l (entryPlace k l 0)))) ≡ lies from n → Answered l k from n
+        → cond (not v) (missing notALog) (cond (not u) (missing noSuchAnswer) (located (entryPlace k l 0 + 3) (lengthAt l (entryPlace k l 0)))) ≡ located from n → Answered l k from n
     go true true p q e = record { accepted = p; counted = ltb-true _ _ q; start = cc; size = cc }
     go true false p q e = absurd (let z : _≡_ {A = ℕ} 0 1 = cc in let w : ⊥ = omega arith in w)
     go false u p q e = absurd (let z : _≡_ {A = ℕ} 0 1 = cc in let w : ⊥ = omega arith in w)
 
 -- it lies within the log
-pub answer-within : (l : List ℕ) (k from n : ℕ) → find l k ≡ lies from n → from + n ≤ length l
+pub answer-within : (l : List ℕ) (k from n : ℕ) → find l k ≡ located from n → from + n ≤ length l
 unfolding valid
 answer-within l k from n e =
     let a = answered l k from n e in

@@ -10,6 +10,7 @@ use borrow.Author.Tests.{ltb-true, ltb-false}
 use lib.Dec.{ltb}
 use lib.ListN.{length, take, drop, getD, List·getD-eq-default, length-take}
 use lib.Seq.{getD-take, getD-drop}
+use Rattle.model.specs.Sizes.{cardSize}
 use Rattle.model.specs.Lists.{at, Bytes}
 use Rattle.model.specs.Volatile.{Volatile}
 use Rattle.model.specs.Command.{Command, powerCycle}
@@ -17,9 +18,9 @@ use Rattle.model.specs.Call.{Powered}
 use Rattle.model.specs.Log.{LaidOut, valid, find, missing, answerIn}
 use Rattle.model.specs.Log as log
 use Rattle.model.specs.Reader.{recordsEnd, partAt}
-use Rattle.model.specs.RecordLaws.{Fields, decode-fields}
+use Rattle.laws.specs.RecordLaws.{Fields, decode-fields}
 use Rattle.model.specs.Refusal.{noSuchAnswer}
-use Rattle.model.specs.Sane.{Good}
+use Rattle.laws.specs.Sane.{Good}
 use Rattle.model.specs.Session.{startOf, countOf, logged, after, entriesOf, endOf, logOf, initial}
 use Rattle.model.specs.Single.{apply}
 use Rattle.properties.specs.Written.{responseOf, written-valid, written-answer, written-none, written-card, count-is}
@@ -96,5 +97,5 @@ module _ (s space : List ℕ) (ks : List Command) (bytes : Bytes s) (a : Accepts
       written-none (entriesOf ks (initial s)) (endOf ks (initial s) .card) (logOf s ks) laid-out k (rw (entries-length ks (initial s), all-fields .number) h)
 
   -- its card is the final card
-  pub log-card : take 2177 (drop (log.offsetOf (logOf s ks)) (logOf s ks)) ≡ endOf ks (initial s) .card
+  pub log-card : take cardSize (drop (log.offsetOf (logOf s ks)) (logOf s ks)) ≡ endOf ks (initial s) .card
   log-card = written-card (entriesOf ks (initial s)) (endOf ks (initial s) .card) (logOf s ks) laid-out

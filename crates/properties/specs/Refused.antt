@@ -35,8 +35,8 @@ refused-run s space n e = on-frame (frame s) e
     number : (m : ℕ) → m ≡ suc n → rejected m space ≡ rejected (suc n) space
     number m q = ap (λ (r : ℕ). rejected r space) q
 
-    on-room : (log : List ℕ) (t : Bool) → cond t (rejected noSpace space) (record { refusal = 0; length = length log; space = log ++ drop (length log) space }) .refusal ≡ suc n
-        → cond t (rejected noSpace space) (record { refusal = 0; length = length log; space = log ++ drop (length log) space }) ≡ rejected (suc n) space
+    on-room : (log : List ℕ) (t : Bool) → cond t (rejected noSpace space) (record { refusal = 0; size = length log; space = log ++ drop (length log) space }) .refusal ≡ suc n
+        → cond t (rejected noSpace space) (record { refusal = 0; size = length log; space = log ++ drop (length log) space }) ≡ rejected (suc n) space
     on-room log true e = number noSpace e
     on-room log false e = absurd (let z : ⊥ = omega arith in z)
 

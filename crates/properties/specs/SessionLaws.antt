@@ -7,18 +7,20 @@ use native.Mathlib.Omega.{arith}
 use borrow.Author.Tests.{eqb-false, leb-true, le-leb}
 use lib.Dec.{ltb, leb, eqb}
 use lib.ListN.{length, take, drop, length-append}
-use Rattle.model.specs.Lists.{at, Bytes, and-left, and-right}
+use Rattle.model.specs.Lists.{at, Bytes}
+use Rattle.laws.specs.BoolLaws.{and-left, and-right}
 use Rattle.model.specs.Volatile.{Volatile}
 use Rattle.model.specs.Command.{Command}
 use Rattle.model.specs.Call.{Powered, Decoded, refused, whole}
 use Rattle.model.specs.At88sc1608.{at88sc1608}
-use Rattle.model.specs.Effects.{answerLength, answer-length}
-use Rattle.model.specs.Log.{entriesBytes, lengthFits, AllFit}
+use Rattle.laws.specs.Effects.{answerLength, answer-length}
+use Rattle.model.specs.Log.{entriesBytes, AllFit}
 use Rattle.model.specs.Reader.{recordsEnd, nextOf}
-use Rattle.model.specs.ReaderLaws.{next-within}
-use Rattle.model.specs.Record.{known, inRange, dataLength, made, dataAt, recordLength, decode}
-use Rattle.model.specs.RecordLaws.{accepted, each-kind, Fields}
-use Rattle.model.specs.Sane.{Good, card-length, good-after}
+use Rattle.laws.specs.ReaderLaws.{next-within}
+use Rattle.model.specs.Record.{kinds, known, inRange, dataLength, made, dataAt, recordLength, decode, lengthFits}
+use Rattle.laws.specs.KindLaws.{each-kind}
+use Rattle.laws.specs.RecordLaws.{accepted, Fields}
+use Rattle.laws.specs.Sane.{Good, card-length, good-after}
 use Rattle.model.specs.Session.{Read, stopped, all, onDecoded, more, readFrom, kindOf, after, entriesOf, endOf}
 
 -- ---- one record
@@ -41,7 +43,7 @@ abbrev pub Logs : Command → Type 0
 Logs k = (known (kindOf k) ≡ true) × (lengthFits (kindOf k) (answerLength at88sc1608 k) ≡ true)
 
 made-logs : (a n : ℕ) (xs : List ℕ) → n < 256 → (kind : ℕ) → known kind ≡ true → inRange kind a n ≡ true → Logs (made kind a n xs)
-unfolding inRange made lengthFits
+unfolding kinds inRange made lengthFits
 made-logs a n xs h =
     each-kind (λ kind. inRange kind a n ≡ true → Logs (made kind a n xs))
     (λ r. (refl, refl))
@@ -77,11 +79,11 @@ decode-logs part b k n e =
 -- the first of them, and the others behind it
 pub record First (n : ℕ) (s : List ℕ) (i : ℕ) (ks : List Command) (j : ℕ) : Type 0 where
   pub command : Command
-  pub length : ℕ
+  pub size : ℕ
   pub others : List Command
-  pub next : nextOf s i ≡ whole command length
+  pub next : nextOf s i ≡ whole command size
   pub list : ks ≡ command ∷ others
-  pub rest : readFrom n s (i + length) ≡ all others j
+  pub rest : readFrom n s (i + size) ≡ all others j
 
 pub read-first : (n : ℕ) (s : List ℕ) (i : ℕ) (ks : List Command) (j : ℕ) → readFrom (suc n) s i ≡ all ks j → First n s i ks j
 read-first n s i ks j e = go (nextOf s i) refl e
@@ -91,7 +93,7 @@ read-first n s i ks j e = go (nextOf s i) refl e
     go₂ k m (all ls x) q p e =
         let a : k ∷ ls ≡ ks = cc in
         let b : x ≡ j = cc in
-        record { command = k; length = m; others = ls; next = q; list = sym a; rest = p ∙ ap (all ls) b }
+        record { command = k; size = m; others = ls; next = q; list = sym a; rest = p ∙ ap (all ls) b }
 
     go : (d : Decoded Command) → nextOf s i ≡ d → onDecoded d stopped (λ k m. more k (readFrom n s (i + m))) ≡ all ks j → First n s i ks j
     go (refused r) q e = absurd (let z : _≡_ {A = ℕ} 0 1 = cc in let w : ⊥ = omega arith in w)
@@ -104,7 +106,7 @@ pub read-count : (n : ℕ) (s : List ℕ) (i : ℕ) (ks : List Command) (j : ℕ
 read-count zero s i ks j e = rw (read-none s i ks j e .0)
 read-count (suc n) s i ks j e =
     let f = read-first n s i ks j e in
-    rw (f .list) (ap suc (read-count n s (i + f .length) (f .others) j (f .rest)))
+    rw (f .list) (ap suc (read-count n s (i + f .size) (f .others) j (f .rest)))
 
 -- a property of every command of a list
 abbrev pub Every : (Command → Type 0) → List Command → Type 0
@@ -124,9 +126,9 @@ readings P s h zero i ks j l e =
     rw (q .0) (record { number = refl; within = let b = q .1 in omega arith; every = tt })
 readings P s h (suc n) i ks j l e =
     let f = read-first n s i ks j e in
-    let w = next-within s i (f .command) (f .length) (f .next) in
-    let r = readings P s h n (i + f .length) (f .others) j (w .1) (f .rest) in
-    rw (f .list) (record { number = ap suc (r .number); within = r .within; every = (h i (f .command) (f .length) (f .next), r .every) })
+    let w = next-within s i (f .command) (f .size) (f .next) in
+    let r = readings P s h n (i + f .size) (f .others) j (w .1) (f .rest) in
+    rw (f .list) (record { number = ap suc (r .number); within = r .within; every = (h i (f .command) (f .size) (f .next), r .every) })
 
 -- ---- the run
 

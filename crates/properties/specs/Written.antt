@@ -9,9 +9,14 @@ use borrow.Author.Tests.{eq-eqb, lt-ltb, le-ltb, eqb-true, leb-true}
 use lib.Dec.{leb, eqb}
 use lib.ListN.{length, take, drop, length-append, List·getD-append}
 use lib.Seq.{getD-append-add, getD-append-seam, drop-append-add, drop-append-seam, take-append-seam, take-at}
-use Rattle.model.specs.Lists.{at, and-right}
-use Rattle.model.specs.Numbers.{bytesOf, numberAt, number-append, number-bytes}
-use Rattle.model.specs.Log.{Entry, entryBytes, entriesBytes, logTrailer, lengthFits, AllFit, LaidOut, countOf, offsetOf, lengthAt, nextEntry, entryOk, entriesOk, valid, entryPlace, find, missing, answerIn}
+use Rattle.model.specs.Sizes.{cardSize, fuseAt, trailerSize, leastLog}
+use Rattle.model.specs.Lists.{at}
+use Rattle.laws.specs.BoolLaws.{and-right}
+use Rattle.model.specs.Numbers.{bytesOf, numberAt}
+use Rattle.laws.specs.KindLaws.{each-row}
+use Rattle.laws.specs.NumberLaws.{number-append, number-bytes}
+use Rattle.model.specs.Log.{Entry, entryBytes, entriesBytes, logTrailer, AllFit, LaidOut, countOf, offsetOf, lengthAt, nextEntry, entryOk, entriesOk, valid, entryPlace, find, missing, answerIn}
+use Rattle.model.specs.Record.{Kind, kinds, lengthFits}
 use Rattle.model.specs.Refusal.{noSuchAnswer}
 use Rattle.properties.specs.LogLaws.{entry-well, Trailed, trailer-well}
 
@@ -19,15 +24,18 @@ use Rattle.properties.specs.LogLaws.{entry-well, Trailed, trailer-well}
 
 -- no response is longer than 256 bytes
 pub fits-small : (kind n : ℕ) → lengthFits kind n ≡ true → n ≤ 256
-unfolding lengthFits
-fits-small kind n e = go (eqb kind 2) (eqb kind 4) (eqb kind 6) (eqb kind 8) e
+unfolding kinds lengthFits
+fits-small kind n =
+    each-row (λ (r : Kind). r .answers n ≡ true → n ≤ 256)
+    (small 0 (omega arith)) (small 4 (omega arith)) (small 0 (omega arith)) (below 256 (omega arith)) (small 0 (omega arith)) (below 128 (omega arith))
+    (small 0 (omega arith)) (small 1 (omega arith)) (small 0 (omega arith)) (small 0 (omega arith)) (small 0 (omega arith)) (small 0 (omega arith))
+    kind
   where
-    go : (a b c d : Bool) → cond a (eqb n 4) (cond b (leb 1 n && leb n 256) (cond c (leb 1 n && leb n 128) (cond d (eqb n 1) (eqb n 0)))) ≡ true → n ≤ 256
-    go true b c d e = let q = eqb-true n 4 e in omega arith
-    go false true c d e = leb-true n 256 (and-right (leb 1 n) _ e)
-    go false false true d e = let q = leb-true n 128 (and-right (leb 1 n) _ e) in omega arith
-    go false false false true e = let q = eqb-true n 1 e in omega arith
-    go false false false false e = let q = eqb-true n 0 e in omega arith
+    small : (m : ℕ) → m ≤ 256 → eqb n m ≡ true → n ≤ 256
+    small m h e = let q = eqb-true n m e in omega arith
+
+    below : (m : ℕ) → m ≤ 256 → (leb 1 n && leb n m) ≡ true → n ≤ 256
+    below m h e = let q = leb-true n m (and-right (leb 1 n) _ e) in omega arith
 
 pub length-entry : (e : Entry) → length (entryBytes e) ≡ 3 + length (e .response)
 length-entry e = ap suc (length-append (bytesOf 2 (length (e .response))) (e .response)) ∙ (omega arith)
@@ -127,24 +135,24 @@ module _ (es : List Entry) (card l : List ℕ) (w : LaidOut es card l) where
   abbrev offset : ℕ
   offset = length (entriesBytes es)
 
-  front-length : length front ≡ offset + 2177
+  front-length : length front ≡ offset + cardSize
   front-length = length-append (entriesBytes es) card ∙ ap (λ (n : ℕ). offset + n) (w .long)
 
   behind : l ≡ front ++ logTrailer offset (length es)
   behind = w .same ∙ sym (append-assoc (entriesBytes es) card (logTrailer offset (length es)))
 
-  pub log-length : length l ≡ offset + 2185
+  pub log-length : length l ≡ offset + leastLog
   log-length =
       let a = length-append front (logTrailer offset (length es)) in
       let b = front-length in
       ap length behind ∙ (omega arith)
 
   -- a number, and a byte, of the trailer
-  trailer-number : (i width : ℕ) → numberAt l (offset + 2177 + i) width ≡ numberAt (logTrailer offset (length es)) i width
+  trailer-number : (i width : ℕ) → numberAt l (offset + cardSize + i) width ≡ numberAt (logTrailer offset (length es)) i width
   trailer-number i width =
       rw (behind, ← front-length) (number-append front (logTrailer offset (length es)) i width)
 
-  trailer-byte : (i : ℕ) → at l (offset + 2177 + i) ≡ at (logTrailer offset (length es)) i
+  trailer-byte : (i : ℕ) → at l (offset + cardSize + i) ≡ at (logTrailer offset (length es)) i
   trailer-byte i = rw (behind, ← front-length) (getD-append-add front (logTrailer offset (length es)) i 0)
 
   pub offset-is : offsetOf l ≡ offset
@@ -152,28 +160,28 @@ module _ (es : List Entry) (card l : List ℕ) (w : LaidOut es card l) where
       let a = log-length in
       let b = entries-small es (w .fit) in
       let c = w .few in
-      let e : length l - 8 ≡ offset + 2177 + 0 = omega arith in
+      let e : length l - trailerSize ≡ offset + cardSize + 0 = omega arith in
       ap (λ (i : ℕ). numberAt l i 4) e ∙ trailer-number 0 4 ∙ number-bytes 4 offset (bytesOf 2 (length es) ++ (0x4C ∷ 0x4F ∷ [])) (omega arith)
 
   pub count-is : countOf l ≡ length es
   count-is =
       let a = log-length in
       let c = w .few in
-      let e : length l - 4 ≡ offset + 2177 + 4 = omega arith in
+      let e : length l - 4 ≡ offset + cardSize + 4 = omega arith in
       ap (λ (i : ℕ). numberAt l i 2) e ∙ trailer-number 4 2 ∙ number-bytes 2 (length es) (0x4C ∷ 0x4F ∷ []) (omega arith)
 
   trailer-is : Trailed l
   trailer-is =
       let a = log-length in
-      let e₂ : length l - 2 ≡ offset + 2177 + 6 = omega arith in
-      let e₁ : length l - 1 ≡ offset + 2177 + 7 = omega arith in
+      let e₂ : length l - 2 ≡ offset + cardSize + 6 = omega arith in
+      let e₁ : length l - 1 ≡ offset + cardSize + 7 = omega arith in
       record {
         long = omega arith;
         first = ap (at l) e₂ ∙ trailer-byte 6;
         second = ap (at l) e₁ ∙ trailer-byte 7;
         few = rw count-is (w .few);
         meets = rw offset-is (sym a);
-        stage = rw (offset-is, w .same, getD-append-add (entriesBytes es) (card ++ logTrailer offset (length es)) 2176 0, List·getD-append card (logTrailer offset (length es)) 0 2176 (omega arith)) (w .stage);
+        stage = rw (offset-is, w .same, getD-append-add (entriesBytes es) (card ++ logTrailer offset (length es)) fuseAt 0, List·getD-append card (logTrailer offset (length es)) 0 fuseAt (omega arith)) (w .stage);
       }
 
   entries-are : entriesOk (length es) l 0 offset ≡ true
@@ -195,7 +203,7 @@ module _ (es : List Entry) (card l : List ℕ) (w : LaidOut es card l) where
   written-none k h = rw (written-valid, count-is, le-ltb _ _ h)
 
   -- its card is the card that was written
-  pub written-card : take 2177 (drop (offsetOf l) l) ≡ card
+  pub written-card : take cardSize (drop (offsetOf l) l) ≡ card
   written-card =
       rw (offset-is, w .same, drop-append-seam (entriesBytes es) (card ++ logTrailer offset (length es)))
-      (take-at card (logTrailer offset (length es)) 2177 (w .long))
+      (take-at card (logTrailer offset (length es)) cardSize (w .long))

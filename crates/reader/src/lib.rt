@@ -2,19 +2,20 @@
 ghost use mathlib.Core.Path.{_≡_};
 ghost use lib.ListN.{length};
 ghost use Rattle.model.specs.Reader.{recordsEnd, partAt, nextOf, placeAfter};
-ghost use Rattle.record.specs.Record.{decodedOf};
+ghost use Rattle.record.specs.DecodedRecord.{decodedOf};
 use record::decoder::Decoded;
 use record::decoder::decode;
 use record::refusal::Refusal;
+use sizes::TRAILER;
 
 // Where the records of a session end: at its trailer, or at 0 if there are fewer than eight bytes.
 pub fn records_end(session: &[u8]) -> usize
     ensures { λ r. ⌜ r ≡ recordsEnd (length (now (session .entry))) ⌝ }
 {
-    if session.len() < 8 {
+    if session.len() < TRAILER {
         return 0;
     }
-    session.len() - 8
+    session.len() - TRAILER
 }
 
 // The record at a place of a session; at or past the end there is no kind byte.

@@ -9,15 +9,15 @@ use lib.ListN.{length, take, drop}
 use Rattle.model.specs.Call.{refused, whole}
 use Rattle.model.specs.Command.{Command}
 use Rattle.model.specs.Lists.{at}
-use Rattle.model.specs.Record.{fixedFields, inRange, dataLength, made, known, decode}
-use Rattle.model.specs.RecordLaws.{each-kind}
+use Rattle.model.specs.Record.{kinds, fixedFields, inRange, dataLength, made, known, decode}
+use Rattle.laws.specs.KindLaws.{each-kind}
 use Rattle.model.specs.Refusal.{unknownKind, fieldOutOfRange, cutShort}
 use Rattle.record.specs.declared.decoder.Record.{Record}
-use Rattle.record.specs.Record.{between, commandOf, recordOf}
+use Rattle.record.specs.DecodedRecord.{between, commandOf, recordOf}
 
 -- the record of a known kind is the command with the data behind its fixed fields
 pub record-made : (part : List ℕ) (m a n kind : ℕ) → known kind ≡ true → commandOf part m (recordOf kind a n) ≡ made kind a n (between (1 + fixedFields kind) m part)
-unfolding recordOf made fixedFields
+unfolding recordOf kinds made fixedFields
 record-made part m a n =
     each-kind (λ kind. commandOf part m (recordOf kind a n) ≡ made kind a n (between (1 + fixedFields kind) m part))
     refl refl refl refl refl refl refl refl refl refl refl refl

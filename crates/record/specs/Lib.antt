@@ -1,3 +1,3 @@
-pub mod Refusal
-pub mod Record
-pub mod RecordLaws
+pub mod RefusalNumber
+pub mod DecodedRecord
+pub mod DataLaws

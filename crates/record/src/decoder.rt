@@ -4,7 +4,7 @@ ghost use mathlib.Core.Bool.{cond, _&&_};
 ghost use lib.Dec.{eqb};
 ghost use lib.ListN.{getD};
 ghost use Rattle.model.specs.Record as model;
-ghost use Rattle.record.specs.Record.{decodedOf, recordOf};
+ghost use Rattle.record.specs.DecodedRecord.{decodedOf, recordOf};
 use crate::refusal::Refusal;
 use access::volatile::Zone;
 

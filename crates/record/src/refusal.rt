@@ -1,6 +1,6 @@
 // Why an input is sent back.
 ghost use mathlib.Core.Path.{_≡_};
-ghost use Rattle.record.specs.Refusal.{refusalNumber};
+ghost use Rattle.record.specs.RefusalNumber.{refusalNumber};
 
 pub enum Refusal {
     SessionLength,

@@ -6,7 +6,9 @@ use mathlib.Core.Path.{_≡_, refl, sym, ap, subst, _∙_}
 use borrow.Author.Tests.{eqb-true}
 use lib.Dec.{ltb, eqb}
 use lib.ListN.{length, set, length-set}
-use Rattle.model.specs.Lists.{at, stores, at-set, and-left}
+use Rattle.model.specs.Lists.{at, stores}
+use Rattle.laws.specs.ListLaws.{at-set}
+use Rattle.laws.specs.BoolLaws.{and-left}
 
 -- the cards are equally long and hold the same at every place that is not hidden
 pub record AgreeOutside (hidden : ℕ → Bool) (c₁ c₂ : List ℕ) : Type 0 where

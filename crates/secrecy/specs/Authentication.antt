@@ -6,15 +6,17 @@ use mathlib.Core.Path.{_≡_, refl, sym, ap, _∙_}
 use native.Mathlib.Omega.{arith}
 use borrow.Author.Tests.{eqb-true, ne-eqb}
 use lib.Dec.{eqb}
+use Rattle.model.specs.Sizes.{fuseAt}
 use Rattle.model.specs.Volatile.{Volatile, powerUp, isGranted}
 use Rattle.model.specs.Command.{Command}
 use Rattle.model.specs.Call.{Call}
 use Rattle.model.specs.Access.{ate}
-use Rattle.model.specs.At88sc1608.{at88sc1608, fuseAt, fuses, registerAt, registerOf}
+use Rattle.model.specs.At88sc1608.{at88sc1608, fuses, registerAt, registerOf}
 use Rattle.model.specs.Apply.{rules}
-use Rattle.model.specs.AccessLaws.{fuse-rule, register-rule, zone-read}
+use Rattle.laws.specs.AccessLaws.{fuse-rule, register-rule, zone-read}
 use Rattle.model.specs.Record.{decode}
-use Rattle.model.specs.Effects.{Counter, ofPassword, ofAuthentication, counterPlace, Move, stays, powers, resets, selects, opens, closes, begins, grants, denies}
+use Rattle.model.specs.Device.{Counter, ofPassword, ofAuthentication, counterPlace}
+use Rattle.laws.specs.Effects.{Move, stays, powers, resets, selects, opens, closes, begins, grants, denies}
 use Rattle.secrecy.specs.Agree.{AgreeOutside}
 use Rattle.secrecy.specs.Unwinding.{Open}
 use Rattle.secrecy.specs.Flow.{Confines, Allows, indistinguishable}
@@ -37,11 +39,11 @@ decides z zl =
       rule = λ k. rule-open (eqb k 0) (k - 1);
       counter = counter-open;
       resetByte = λ k. not-hidden z _ zl (omega arith);
-      fuse = not-hidden z 2176 zl (omega arith);
+      fuse = not-hidden z fuseAt zl (omega arith);
     }
   where
     rule-open : (t : Bool) (m : ℕ) → inZone z (cond t fuseAt (registerAt m)) ≡ false
-    rule-open true m = not-hidden z 2176 zl (omega arith)
+    rule-open true m = not-hidden z fuseAt zl (omega arith)
     rule-open false m = not-hidden z _ zl (omega arith)
 
     counter-open : (n : Counter) → inZone z (counterPlace at88sc1608 n) ≡ false

@@ -8,7 +8,10 @@ use native.Mathlib.Omega.{arith}
 use borrow.Author.Tests.{eq-eqb, not-true}
 use lib.Dec.{eqb}
 use lib.ListN.{getD, set, replicate, length-set}
-use Rattle.model.specs.Lists.{at, sameList, sameList-refl, at-set-other, and-left, and-right}
+use Rattle.model.specs.Sizes.{fuseAt}
+use Rattle.model.specs.Lists.{at, sameList}
+use Rattle.laws.specs.ListLaws.{sameList-refl, at-set-other}
+use Rattle.laws.specs.BoolLaws.{and-left, and-right}
 use Rattle.model.specs.Volatile.{Volatile, powerUp}
 use Rattle.model.specs.Command.{Command, powerCycle, reset, select, readZone, writeZone, readConfiguration, writeConfiguration, readFuses, writeFuses, verifyPassword, beginAuthentication, verifyAuthentication}
 use Rattle.model.specs.Call.{Call, Decoded, refused, whole, Powered, powered, Reply}
@@ -20,7 +23,7 @@ use Rattle.model.specs.Single.{check, apply, admit, replies, final}
 use Rattle.secrecy.specs.Agree.{AgreeOutside}
 use Rattle.secrecy.specs.TwoRuns.{Along}
 use Rattle.secrecy.specs.Secret.{password, inZone, inZoneOrPasswords, PresentsNeither, AcceptsNot, Indistinguishable}
-use Rattle.secrecy.specs.Demand3.{read-password, authentication-demanded}
+use Rattle.secrecy.specs.CardSecrecy.{read-password, authentication-demanded}
 
 -- ---- the conditions as tests
 
@@ -85,7 +88,7 @@ along test Ok h (x ∷ xs) m t =
 
 -- a sealed card of $FF bytes
 abbrev blank : List ℕ
-blank = replicate 2176 0xFF ++ (0 ∷ [])
+blank = replicate fuseAt 0xFF ++ (0 ∷ [])
 
 abbrev call : List ℕ → ℕ → Call
 call bytes room = record { sent = bytes; space = replicate room 0x99 }

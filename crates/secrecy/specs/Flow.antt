@@ -5,7 +5,8 @@ use mathlib.Core.Bool.{Bool, true, false, cond, not, true≢false}
 use mathlib.Core.List.{List}
 use mathlib.Core.Path.{_≡_, refl, sym, ap, subst, _∙_}
 use lib.Dec.{eqb}
-use Rattle.model.specs.Lists.{at, sameList, tab-cong, at-tab, sameList-false}
+use Rattle.model.specs.Lists.{at, sameList}
+use Rattle.laws.specs.ListLaws.{tab-cong, at-tab, sameList-false}
 use Rattle.model.specs.Volatile.{Volatile}
 use Rattle.model.specs.Command.{Command, verifyPassword}
 use Rattle.model.specs.Device.{Device}
@@ -13,8 +14,8 @@ use Rattle.model.specs.Refusal.{cardLength, fuseByte, stateOutOfRange}
 use Rattle.model.specs.Call.{powered, Decoded, Call, replies, final}
 use Rattle.model.specs.Apply.{rules, password, apply}
 use Rattle.model.specs.Single.{isFuseByte, stateInRange, checkOf}
-use Rattle.model.specs.Effects.{Move, moves, answer-length}
-use Rattle.model.specs.Sane.{Untouched, keeps}
+use Rattle.laws.specs.Effects.{Move, moves, answer-length}
+use Rattle.laws.specs.Sane.{Untouched, keeps}
 use Rattle.secrecy.specs.Agree.{AgreeOutside}
 use Rattle.secrecy.specs.Unwinding.{Open, rules-same, unwind}
 use Rattle.secrecy.specs.TwoRuns.{Along, list-same}

@@ -6,5 +6,5 @@ pub mod Secret
 pub mod Rights
 pub mod ReadPassword
 pub mod Authentication
-pub mod Demand3
+pub mod CardSecrecy
 pub mod Examples

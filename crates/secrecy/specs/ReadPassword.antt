@@ -6,17 +6,20 @@ use mathlib.Core.Path.{_≡_, refl, sym, ap, _∙_}
 use native.Mathlib.Omega.{arith}
 use borrow.Author.Tests.{eqb-true, eqb-false, ne-eqb}
 use lib.Dec.{eqb}
-use Rattle.model.specs.Lists.{sameList, and-false}
+use Rattle.model.specs.Sizes.{fuseAt}
+use Rattle.model.specs.Lists.{sameList}
+use Rattle.laws.specs.BoolLaws.{and-false}
 use Rattle.model.specs.Volatile.{Volatile, powerUp, isActive, isGranted}
 use Rattle.model.specs.Command.{Command, verifyPassword}
 use Rattle.model.specs.Call.{Call}
 use Rattle.model.specs.Access.{rpe, ate, passwordSet, met, setOf}
-use Rattle.model.specs.At88sc1608.{at88sc1608, fuseAt, fuses, registerAt, registerOf, passwordByte, mayRead}
+use Rattle.model.specs.At88sc1608.{at88sc1608, fuses, registerAt, registerOf, passwordByte, mayRead}
 use Rattle.model.specs.Apply.{rules, password}
-use Rattle.model.specs.AccessLaws.{fuse-rule, register-rule, zone-read, configuration-read, configuration-written}
+use Rattle.laws.specs.AccessLaws.{fuse-rule, register-rule, zone-read, configuration-read, configuration-written}
 use Rattle.model.specs.Record.{decode}
-use Rattle.model.specs.Effects.{Counter, ofPassword, ofAuthentication, counterPlace, Move, stays, powers, resets, selects, opens, closes, begins, grants, denies}
-use Rattle.model.specs.Sane.{Untouched}
+use Rattle.model.specs.Device.{Counter, ofPassword, ofAuthentication, counterPlace}
+use Rattle.laws.specs.Effects.{Move, stays, powers, resets, selects, opens, closes, begins, grants, denies}
+use Rattle.laws.specs.Sane.{Untouched}
 use Rattle.secrecy.specs.Agree.{AgreeOutside}
 use Rattle.secrecy.specs.Unwinding.{Open}
 use Rattle.secrecy.specs.Flow.{Confines, Allows, indistinguishable}
@@ -76,11 +79,11 @@ module _ (z p : ℕ) (zone : z < 8) (set : p < 8) where
         rule = λ k. rule-open (eqb k 0) (k - 1);
         counter = counter-open;
         resetByte = λ k. not-hidden _ (omega arith) (λ j n q e. omega arith);
-        fuse = not-hidden 2176 (omega arith) (λ j n q e. omega arith);
+        fuse = not-hidden fuseAt (omega arith) (λ j n q e. omega arith);
       }
     where
       rule-open : (t : Bool) (m : ℕ) → hidden (cond t fuseAt (registerAt m)) ≡ false
-      rule-open true m = not-hidden 2176 (omega arith) (λ j n q e. omega arith)
+      rule-open true m = not-hidden fuseAt (omega arith) (λ j n q e. omega arith)
       rule-open false m = not-hidden _ (omega arith) (λ j n q e. omega arith)
 
       counter-open : (n : Counter) → hidden (counterPlace at88sc1608 n) ≡ false

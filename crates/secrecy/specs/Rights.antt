@@ -9,10 +9,11 @@ use lib.Dec.{eqb}
 use Rattle.model.specs.Lists.{at}
 use Rattle.model.specs.Volatile.{Volatile, Active, isActive}
 use Rattle.model.specs.Access.{permissions, permission, permits, areaOf, stageOf, setOf, configurationAllows}
-use Rattle.model.specs.At88sc1608.{at88sc1608, fuseAt, fuses, registerAt, passwordByte, ruleAt, blow}
-use Rattle.model.specs.AccessLaws.{configuration-written}
-use Rattle.model.specs.Effects.{Counter, ofPassword, ofAuthentication, counterPlace}
-use Rattle.model.specs.Sane.{Untouched, fuse-shut, fuse-counter}
+use Rattle.model.specs.Sizes.{fuseAt}
+use Rattle.model.specs.At88sc1608.{at88sc1608, fuses, registerAt, passwordByte, ruleAt, blow}
+use Rattle.laws.specs.AccessLaws.{configuration-written}
+use Rattle.model.specs.Device.{Counter, ofPassword, ofAuthentication, counterPlace}
+use Rattle.laws.specs.Sane.{Untouched, fuse-shut, fuse-counter}
 
 -- ---- the places of a password: in the configuration from $40 on, never at a multiple of 4, of the selector's set
 

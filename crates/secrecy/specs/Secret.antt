@@ -6,20 +6,21 @@ use mathlib.Core.List.{List}
 use mathlib.Core.Path.{_≡_}
 use lib.Dec.{eqb}
 use lib.ListN.{length}
+use Rattle.model.specs.Sizes.{cardSize, fuseAt}
 use Rattle.model.specs.Lists.{at}
 use Rattle.model.specs.Volatile.{powerUp}
 use Rattle.model.specs.Command.{Command, verifyPassword, verifyAuthentication}
 use Rattle.model.specs.Call.{Call, powered}
 use Rattle.model.specs.Apply as any
-use Rattle.model.specs.At88sc1608.{at88sc1608, fuseAt, registerAt, passwordByte}
+use Rattle.model.specs.At88sc1608.{at88sc1608, registerAt, passwordByte}
 use Rattle.model.specs.Record.{decode}
 use Rattle.model.specs.Single.{check, apply, replies, final}
-use Rattle.model.specs.Effects.{Counter, counterPlace}
+use Rattle.model.specs.Device.{Counter, counterPlace}
 use Rattle.secrecy.specs.TwoRuns.{Along}
 
 -- a card of 2,177 bytes whose PER is blown: F = 0
 pub record Sealed (b : List ℕ) : Type 0 where
-  pub long : length b ≡ 2177
+  pub long : length b ≡ cardSize
   pub blown : at b fuseAt ≡ 0
 
 -- the access register of a zone

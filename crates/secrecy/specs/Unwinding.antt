@@ -6,13 +6,13 @@ use mathlib.Core.List.{List, [], _∷_}
 use mathlib.Core.Path.{_≡_, refl, ap, subst, _∙_}
 use lib.Dec.{eqb}
 use lib.ListN.{set}
-use Rattle.model.specs.Lists.{at, tab, sameList, stores, tab-cong}
+use Rattle.model.specs.Lists.{at, tab, sameList, stores}
+use Rattle.laws.specs.ListLaws.{tab-cong}
 use Rattle.model.specs.Volatile.{Volatile, isBegun}
 use Rattle.model.specs.Command.{Command, powerCycle, reset, select, readZone, writeZone, readConfiguration, writeConfiguration, readFuses, writeFuses, verifyPassword, beginAuthentication, verifyAuthentication}
-use Rattle.model.specs.Device.{Device}
+use Rattle.model.specs.Device.{Device, Counter, ofPassword, ofAuthentication, counterPlace}
 use Rattle.model.specs.Call.{Acted, reporting, silent}
-use Rattle.model.specs.Apply.{rules, shown, kept, password, presented, started, judged, apply}
-use Rattle.model.specs.Effects.{Counter, ofPassword, ofAuthentication, counterPlace}
+use Rattle.model.specs.Apply.{Attempt, locked, right, wrong, attemptOf, Judgement, notBegun, accepted, denied, judgementOf, rules, shown, kept, password, presented, started, judged, apply}
 use Rattle.secrecy.specs.Agree.{AgreeOutside, set-agree, stores-agree}
 
 -- the places by which a card decides and answers for itself are not hidden
@@ -30,22 +30,22 @@ module _ (D : Device) (hidden : ℕ → Bool) (open-places : Open D hidden) wher
   pub rules-same : (c₁ c₂ : List ℕ) → AgreeOutside hidden c₁ c₂ → rules D c₁ ≡ rules D c₂
   rules-same c₁ c₂ h = tab-cong _ _ (D .ruleCount) (λ k l. h .same (D .ruleAt k) (open-places .rule k))
 
-  presented-same : (locked right : Bool) (c₁ c₂ : List ℕ) (s : Volatile) (k : ℕ) → AgreeOutside hidden c₁ c₂
-      → Same hidden (silent (presented D locked right c₁ s k)) (silent (presented D locked right c₂ s k))
-  presented-same true right c₁ c₂ s k h = (refl, h)
-  presented-same false true c₁ c₂ s k h = (refl, set-agree hidden c₁ c₂ _ _ _ h (λ o. refl))
-  presented-same false false c₁ c₂ s k h = (refl, set-agree hidden c₁ c₂ _ _ _ h (λ o. ap (D .spend) (h .same _ o)))
+  presented-same : (a : Attempt) (c₁ c₂ : List ℕ) (s : Volatile) (k : ℕ) → AgreeOutside hidden c₁ c₂
+      → Same hidden (silent (presented D a c₁ s k)) (silent (presented D a c₂ s k))
+  presented-same locked c₁ c₂ s k h = (refl, h)
+  presented-same right c₁ c₂ s k h = (refl, set-agree hidden c₁ c₂ _ _ _ h (λ o. refl))
+  presented-same wrong c₁ c₂ s k h = (refl, set-agree hidden c₁ c₂ _ _ _ h (λ o. ap (D .spend) (h .same _ o)))
 
   started-same : (locked : Bool) (c₁ c₂ : List ℕ) (s : Volatile) → AgreeOutside hidden c₁ c₂
       → Same hidden (silent (started D locked c₁ s)) (silent (started D locked c₂ s))
   started-same true c₁ c₂ s h = (refl, h)
   started-same false c₁ c₂ s h = (refl, set-agree hidden c₁ c₂ _ _ _ h (λ o. ap (D .spend) (h .same _ o)))
 
-  judged-same : (b v : Bool) (c₁ c₂ : List ℕ) (s : Volatile) (xs : List ℕ) → AgreeOutside hidden c₁ c₂
-      → Same hidden (silent (judged D b v c₁ s xs)) (silent (judged D b v c₂ s xs))
-  judged-same false v c₁ c₂ s xs h = (refl, h)
-  judged-same true true c₁ c₂ s xs h = (refl, set-agree hidden _ _ _ _ _ (stores-agree hidden _ _ xs 0 c₁ c₂ h) (λ o. refl))
-  judged-same true false c₁ c₂ s xs h = (refl, h)
+  judged-same : (j : Judgement) (c₁ c₂ : List ℕ) (s : Volatile) (xs : List ℕ) → AgreeOutside hidden c₁ c₂
+      → Same hidden (silent (judged D j c₁ s xs)) (silent (judged D j c₂ s xs))
+  judged-same notBegun c₁ c₂ s xs h = (refl, h)
+  judged-same accepted c₁ c₂ s xs h = (refl, set-agree hidden _ _ _ _ _ (stores-agree hidden _ _ xs 0 c₁ c₂ h) (λ o. refl))
+  judged-same denied c₁ c₂ s xs h = (refl, h)
 
   module _ (c₁ c₂ : List ℕ) (s : Volatile) (h : AgreeOutside hidden c₁ c₂)
       (unreadable : (i : ℕ) → hidden i ≡ true → D .mayRead (rules D c₁) s i ≡ false) where
@@ -83,10 +83,10 @@ module _ (D : Device) (hidden : ℕ → Bool) (open-places : Open D hidden) wher
         go true = set-agree hidden c₁ c₂ _ _ _ h (λ o. ap (D .blow) (h .same _ o))
         go false = h
     unwind (verifyPassword j xs) g =
-        subst (λ (v : ℕ). Same hidden (apply D c₁ s (verifyPassword j xs)) (silent (presented D (eqb v 0) (sameList xs (password D c₂ j)) c₂ s j))) (h .same _ (open-places .counter (ofPassword j)))
-        (subst (λ (r : Bool). Same hidden (apply D c₁ s (verifyPassword j xs)) (silent (presented D (eqb (at c₁ (D .counterAt j)) 0) r c₂ s j))) (g j xs refl)
-        (presented-same (eqb (at c₁ (D .counterAt j)) 0) (sameList xs (password D c₁ j)) c₁ c₂ s j h))
+        subst (λ (v : ℕ). Same hidden (apply D c₁ s (verifyPassword j xs)) (silent (presented D (attemptOf (eqb v 0) (sameList xs (password D c₂ j))) c₂ s j))) (h .same _ (open-places .counter (ofPassword j)))
+        (subst (λ (r : Bool). Same hidden (apply D c₁ s (verifyPassword j xs)) (silent (presented D (attemptOf (eqb (at c₁ (D .counterAt j)) 0) r) c₂ s j))) (g j xs refl)
+        (presented-same (attemptOf (eqb (at c₁ (D .counterAt j)) 0) (sameList xs (password D c₁ j))) c₁ c₂ s j h))
     unwind beginAuthentication g =
         subst (λ (v : ℕ). Same hidden (apply D c₁ s beginAuthentication) (silent (started D (eqb v 0) c₂ s))) (h .same _ (open-places .counter ofAuthentication))
         (started-same (eqb (at c₁ (D .attemptsAt)) 0) c₁ c₂ s h)
-    unwind (verifyAuthentication v xs) g = judged-same (isBegun (s .authentication)) v c₁ c₂ s xs h
+    unwind (verifyAuthentication v xs) g = judged-same (judgementOf (isBegun (s .authentication)) v) c₁ c₂ s xs h

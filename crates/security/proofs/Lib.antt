@@ -1,4 +1,4 @@
 mod AuthenticationLaws
-mod ByteLaws
+mod CounterLaws
 mod FuseLaws
 mod PasswordLaws

@@ -2,7 +2,7 @@
 use Prim.Native.Nat.{ℕ, _+_}
 use Rattle.security.specs.Password.{activeAfter, cardAfter}
 use Rattle.model.specs.Apply as any
-use Rattle.model.specs.Apply.{password, presented}
+use Rattle.model.specs.Apply.{attemptOf, password, presented}
 use Rattle.model.specs.At88sc1608.{at88sc1608, counterAt, passwordByte}
 use Rattle.model.specs.Bits.{spentCounter}
 use Rattle.model.specs.Command.{verifyPassword}
@@ -23,7 +23,7 @@ pub verify-card : (c : List ℕ) (s : Volatile) (k : ℕ) (xs : List ℕ) → ca
 unfolding any.apply cardAfter
 verify-card c s k xs = go (eqb (at c (counterAt k)) 0) (sameList xs (password at88sc1608 c k))
   where
-    go : (l r : Bool) → cond l c (cond r (set c (counterAt k) 255) (set c (counterAt k) (spentCounter (at c (counterAt k))))) ≡ presented at88sc1608 l r c s k .card
+    go : (l r : Bool) → cond l c (cond r (set c (counterAt k) 255) (set c (counterAt k) (spentCounter (at c (counterAt k))))) ≡ presented at88sc1608 (attemptOf l r) c s k .card
     go true r = refl
     go false true = refl
     go false false = refl
@@ -33,7 +33,7 @@ pub verify-state : (c : List ℕ) (s : Volatile) (k : ℕ) (xs : List ℕ)
 unfolding any.apply activeAfter
 verify-state c s k xs = go (eqb (at c (counterAt k)) 0) (sameList xs (password at88sc1608 c k))
   where
-    go : (l r : Bool) → activating s (cond l (s .active) (cond r (selector k) none)) ≡ presented at88sc1608 l r c s k .state
+    go : (l r : Bool) → activating s (cond l (s .active) (cond r (selector k) none)) ≡ presented at88sc1608 (attemptOf l r) c s k .state
     go true r = refl
     go false true = refl
     go false false = refl

@@ -2,6 +2,7 @@
 ghost use mathlib.Core.Path.{_≡_};
 ghost use Prim.Native.Nat.{_+_};
 ghost use lib.ListN.{length};
+ghost use Rattle.model.specs.Sizes.{cardSize};
 ghost use Rattle.model.specs.Lists.{sameList};
 ghost use Rattle.model.specs.Apply.{password};
 ghost use Rattle.model.specs.At88sc1608.{at88sc1608, counterAt};
@@ -24,7 +25,7 @@ fn counter_at(selector: u8) -> usize
 
 // Whether three bytes are the password of a selector.
 fn is_password(card: &[u8], selector: u8, bytes: &[u8]) -> bool
-    requires { ⌜ (length (now card) ≡ 2177) × (length (now bytes) ≡ 3) ⌝ }
+    requires { ⌜ (length (now card) ≡ cardSize) × (length (now bytes) ≡ 3) ⌝ }
     ensures { λ r. ⌜ r ≡ sameList (now (bytes .entry)) (password at88sc1608 (now (card .entry)) selector) ⌝ }
 {
     let at = counter_at(selector);
@@ -39,7 +40,7 @@ fn is_password(card: &[u8], selector: u8, bytes: &[u8]) -> bool
 
 // The counter of a presentation moves, and the password that is then active is given.
 fn settle(card: &mut [u8], selector: u8, right: bool, active: Active) -> Active
-    requires { ⌜ length (now card) ≡ 2177 ⌝ }
+    requires { ⌜ length (now card) ≡ cardSize ⌝ }
     ensures active { λ r. ⌜ activeOf r ≡ activeAfter (now (card .entry)) selector right (activeOf active) ⌝ }
     ensures card { λ r. ⌜ now (card .exit) ≡ cardAfter (now (card .entry)) selector right ⌝ }
 {
@@ -58,7 +59,7 @@ fn settle(card: &mut [u8], selector: u8, right: bool, active: Active) -> Active
 
 // helper: verify password.
 pub fn verify_password(card: &mut [u8], state: Volatile, selector: u8, bytes: &[u8]) -> Volatile
-    requires { ⌜ (length (now card) ≡ 2177) × (length (now bytes) ≡ 3) ⌝ }
+    requires { ⌜ (length (now card) ≡ cardSize) × (length (now bytes) ≡ 3) ⌝ }
     ensures state { λ r. ⌜ volatileOf r ≡ apply (now (card .entry)) (volatileOf state) (verifyPassword selector (now (bytes .entry))) .report .state ⌝ }
     ensures card { λ r. ⌜ now (card .exit) ≡ apply (now (card .entry)) (volatileOf state) (verifyPassword selector (now (bytes .entry))) .card ⌝ }
 {

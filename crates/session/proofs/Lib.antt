@@ -1,2 +1,2 @@
-mod WriteLaws
+mod SessionWriteLaws
 mod RunLaws

@@ -8,8 +8,9 @@ use borrow.Author.Tests.{lt-ltb, eq-eqb, eqb-true}
 use lib.Dec.{eqb}
 use lib.ListN.{length, drop, length-append}
 use lib.Seq.{sets, length-take-le}
+use Rattle.model.specs.Sizes.{cardSize, leastSession, leastLog}
 use Rattle.model.specs.Command.{Command}
-use Rattle.model.specs.Numbers.{sets-front}
+use Rattle.laws.specs.NumberLaws.{sets-front}
 use Rattle.model.specs.Reader.{recordsEnd}
 use Rattle.model.specs.Refusal.{bytesLeft, noSpace}
 use Rattle.model.specs.Session.{startOf, countOf, frame, Read, stopped, all, readFrom, initial, logOf, rejected, ended, framed, run}
@@ -17,7 +18,7 @@ use Rattle.properties.specs.SessionLaws.{end-length}
 use Rattle.properties.specs.Accepted.{framed-well, run-accepted}
 use Rattle.validate.specs.Check.{entriesTotal, unfit, sized, sizedOf, onFrame, checkOf}
 use Rattle.session.specs.Run.{LogReady, LogWritten}
-use Rattle.session.proofs.WriteLaws.{entries-total}
+use Rattle.session.proofs.SessionWriteLaws.{entries-total}
 
 -- a session that was checked, and the length of its entries
 pub record Fits (s : List ℕ) (n : ℕ) : Type 0 where
@@ -62,26 +63,26 @@ module _ (s : List ℕ) (n : ℕ) where
         on-frame (suc m) e = ap (λ (x : ℕ). rejected x space) (let w : n ≡ suc m = cc in w)
 
     module _ (e : sized n ≡ checkOf s) where
-      log-size : length (logOf s (fits e .commands)) ≡ n + 2185
+      log-size : length (logOf s (fits e .commands)) ≡ n + leastLog
       log-size =
           let f = fits e in
-          let l : 2185 ≤ length s = framed-well s (f .frames) .long in
-          let c = end-length (f .commands) (initial s) ∙ length-take-le 2177 s (omega arith) in
+          let l : leastSession ≤ length s = framed-well s (f .frames) .long in
+          let c = end-length (f .commands) (initial s) ∙ length-take-le cardSize s (omega arith) in
           let t = f .total in
           simp (length-append, entries-total (f .commands) (initial s), c) (omega arith)
 
-      pub no-room : length space < n + 2185 → rejected noSpace space ≡ run s space
+      pub no-room : length space < n + leastLog → rejected noSpace space ≡ run s space
       unfolding run
       no-room h = rw (fits e .frames, fits e .reads, eq-eqb (recordsEnd (length s)) _ refl, log-size, lt-ltb _ _ h)
 
-      pub log-ready : n + 2185 ≤ length space → LogReady s n space
+      pub log-ready : n + leastLog ≤ length space → LogReady s n space
       log-ready h = record { commands = fits e .commands; frames = fits e .frames; reads = fits e .reads; total = fits e .total; room = h }
 
-      pub run-logged : n + 2185 ≤ length space → (space′ : List ℕ) → LogWritten s space space′
-          → record { refusal = 0; length = n + 2185; space = space′ } ≡ run s space
+      pub run-logged : n + leastLog ≤ length space → (space′ : List ℕ) → LogWritten s space space′
+          → record { refusal = 0; size = n + leastLog; space = space′ } ≡ run s space
       run-logged h space′ w =
           sym (run-accepted s space ks (record { frames = fits e .frames; reads = fits e .reads; room = let l = log-size in omega arith })
-          ∙ (λ t. record { refusal = 0; length = log-size t; space = same t }))
+          ∙ (λ t. record { refusal = 0; size = log-size t; space = same t }))
         where
           ks : List Command
           ks = fits e .commands

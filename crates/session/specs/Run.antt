@@ -4,14 +4,15 @@ use mathlib.Core.List.{List}
 use mathlib.Core.Path.{_≡_}
 use lib.ListN.{length}
 use lib.Seq.{sets}
+use Rattle.model.specs.Sizes.{leastLog}
 use Rattle.model.specs.At88sc1608.{at88sc1608}
 use Rattle.model.specs.Call.{Powered, powered}
 use Rattle.model.specs.Command.{Command}
-use Rattle.model.specs.Effects.{answerLength}
+use Rattle.laws.specs.Effects.{answerLength}
 use Rattle.model.specs.Log.{entryBytes, entriesBytes}
 use Rattle.model.specs.Reader.{recordsEnd}
-use Rattle.model.specs.RecordLaws.{Fields}
-use Rattle.model.specs.Sane.{Good}
+use Rattle.laws.specs.RecordLaws.{Fields}
+use Rattle.laws.specs.Sane.{Good}
 use Rattle.model.specs.Session as model
 use Rattle.model.specs.Volatile.{Volatile, powerUp}
 use Rattle.command.specs.Reply.{outcomeNumber}
@@ -20,7 +21,7 @@ use Rattle.session.specs.declared.result.Run.{Run}
 
 -- the result with the log space at exit
 abbrev pub ranOf : Run → List ℕ → model.Ran
-ranOf r space = record { refusal = outcomeNumber (r .outcome); length = r .length; space = space }
+ranOf r space = record { refusal = outcomeNumber (r .outcome); size = r .size; space = space }
 
 -- ---- one record
 
@@ -62,7 +63,7 @@ pub record LogReady (s : List ℕ) (entries : ℕ) (log : List ℕ) : Type 0 whe
   pub frames : model.frame s ≡ 0
   pub reads : model.readFrom (model.countOf s) s (model.startOf s) ≡ model.all commands (recordsEnd (length s))
   pub total : entries ≡ entriesTotal commands
-  pub room : entries + 2185 ≤ length log
+  pub room : entries + leastLog ≤ length log
 
 -- the log stands at the front of the space
 pub record LogWritten (s log log′ : List ℕ) : Type 0 where

@@ -6,6 +6,7 @@ use crate::result::Run;
 use crate::write::write_log;
 use command::Outcome;
 use record::refusal::Refusal;
+use sizes::LEAST_LOG;
 use validate::Checked;
 use validate::check;
 
@@ -19,26 +20,26 @@ pub fn run(session: &[u8], log: &mut [u8]) -> Run
     match check(session) {
         Checked::Refused(why) => Run {
             outcome: Outcome::Refused(why),
-            length: 0,
+            size: 0,
         },
         Checked::Entries(entries) => {
             let room = log.len();
-            if room < 2185 {
+            if room < LEAST_LOG {
                 return Run {
                     outcome: Outcome::Refused(Refusal::NoSpace),
-                    length: 0,
+                    size: 0,
                 };
             }
-            if room - 2185 < entries {
+            if room - LEAST_LOG < entries {
                 return Run {
                     outcome: Outcome::Refused(Refusal::NoSpace),
-                    length: 0,
+                    size: 0,
                 };
             }
             write_log(session, entries, log);
             Run {
                 outcome: Outcome::Accepted,
-                length: entries + 2185,
+                size: entries + LEAST_LOG,
             }
         }
     }

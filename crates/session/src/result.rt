@@ -3,5 +3,5 @@ use command::Outcome;
 
 pub struct Run {
     pub outcome: Outcome,
-    pub length: usize,
+    pub size: usize,
 }

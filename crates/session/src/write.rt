@@ -4,7 +4,7 @@ ghost use mathlib.Core.List.{[]};
 ghost use Rattle.model.specs.Call.{powered};
 ghost use Rattle.model.specs.Session.{kindOf};
 ghost use Rattle.access.specs.State.{volatileOf};
-ghost use Rattle.record.specs.Record.{commandOf};
+ghost use Rattle.record.specs.DecodedRecord.{commandOf};
 ghost use Rattle.session.specs.Run.{EntryReady, EntryWritten, RecordsReady, RecordsRun, LogReady, LogWritten};
 use access::volatile::Volatile;
 use access::volatile::power_up;
@@ -19,6 +19,8 @@ use record::decoder::Decoded;
 use record::decoder::Record;
 use record::number::get2;
 use record::number::get4;
+use sizes::CARD;
+use sizes::TRAILER;
 
 // The number of a record's kind.
 fn kind_number(record: Record) -> u8
@@ -87,11 +89,11 @@ pub fn write_log(session: &[u8], entries: usize, log: &mut [u8])
     ensures { λ _. ⌜ LogWritten (now (session .entry)) (now (log .entry)) (now (log .exit)) ⌝ }
 {
     let length = session.len();
-    let start = get4(session, length - 8);
+    let start = get4(session, length - TRAILER);
     let count = get2(session, length - 4);
-    let mut card = [0u8; 2177];
-    copy(&mut card, 0, session, 0, 2177);
+    let mut card = [0u8; CARD];
+    copy(&mut card, 0, session, 0, CARD);
     run_records(session, start, count, &mut card, log);
-    copy(log, entries, &card, 0, 2177);
-    put_trailer(log, entries + 2177, entries, count);
+    copy(log, entries, &card, 0, CARD);
+    put_trailer(log, entries + CARD, entries, count);
 }

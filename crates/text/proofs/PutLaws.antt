@@ -6,7 +6,7 @@ use native.Mathlib.Omega.{arith}
 use borrow.Author.Tests.{lt-ltb, le-ltb}
 use lib.ListN.{length, take, set, length-append, getD}
 use lib.Seq.{length-sets, set-out, take-suc, length-take-le, take-all}
-use Rattle.model.specs.Numbers.{sets-append}
+use Rattle.laws.specs.NumberLaws.{sets-append}
 use Rattle.text.specs.Put.{Put}
 use Rattle.text.specs.Text.{hexDigit, hex, hexes, decimal}
 use Rattle.text.specs.TextLaws.{hexes-append, hexes-length, decimal-one, decimal-more}

@@ -6,11 +6,11 @@ use lib.Dec.{eqb}
 use lib.ListN.{length}
 use Rattle.model.specs.At88sc1608.{at88sc1608}
 use Rattle.model.specs.Command.{Command}
-use Rattle.model.specs.Effects.{answerLength}
+use Rattle.laws.specs.Effects.{answerLength}
 use Rattle.model.specs.Reader.{recordsEnd}
 use Rattle.model.specs.Refusal.{bytesLeft}
 use Rattle.model.specs.Session.{startOf, countOf, frame, Read, stopped, all, readFrom}
-use Rattle.record.specs.Refusal.{refusalNumber}
+use Rattle.record.specs.RefusalNumber.{refusalNumber}
 use Rattle.validate.specs.declared.Checked.{Checked}
 use Rattle.validate.specs.declared.Checked.the-variants as checked
 

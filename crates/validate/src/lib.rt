@@ -2,6 +2,7 @@
 ghost use mathlib.Core.Path.{_≡_};
 ghost use Prim.Native.Nat.{_≤_};
 ghost use lib.ListN.{length};
+ghost use Rattle.model.specs.Sizes.{mostRecords};
 ghost use Rattle.model.specs.Reader.{recordsEnd};
 ghost use Rattle.model.specs.Session as model;
 ghost use Rattle.command.specs.Reply.{outcomeNumber};
@@ -15,6 +16,12 @@ use record::decoder::Decoded;
 use record::number::get2;
 use record::number::get4;
 use record::refusal::Refusal;
+use sizes::CARD;
+use sizes::FUSES;
+use sizes::GREATEST_SESSION;
+use sizes::LEAST_SESSION;
+use sizes::MOST_RECORDS;
+use sizes::TRAILER;
 
 // A refusal, or how long the entries of the log will be.
 pub enum Checked {
@@ -27,10 +34,10 @@ pub fn frame(session: &[u8]) -> Outcome
     ensures { λ r. ⌜ outcomeNumber r ≡ model.frame (now (session .entry)) ⌝ }
 {
     let length = session.len();
-    if length < 2185 {
+    if length < LEAST_SESSION {
         return Outcome::Refused(Refusal::SessionLength);
     }
-    if 65536 < length {
+    if GREATEST_SESSION < length {
         return Outcome::Refused(Refusal::SessionLength);
     }
     if session[length - 2] != 83 {
@@ -39,17 +46,17 @@ pub fn frame(session: &[u8]) -> Outcome
     if session[length - 1] != 69 {
         return Outcome::Refused(Refusal::SessionTrailer);
     }
-    let start = get4(session, length - 8);
-    if start < 2177 {
+    let start = get4(session, length - TRAILER);
+    if start < CARD {
         return Outcome::Refused(Refusal::StartOutOfRange);
     }
-    if length - 8 < start {
+    if length - TRAILER < start {
         return Outcome::Refused(Refusal::StartOutOfRange);
     }
-    if 4096 < get2(session, length - 4) {
+    if MOST_RECORDS < get2(session, length - 4) {
         return Outcome::Refused(Refusal::TooManyRecords);
     }
-    if !is_fuse_byte(session[2176]) {
+    if !is_fuse_byte(session[FUSES]) {
         return Outcome::Refused(Refusal::FuseByte);
     }
     Outcome::Accepted
@@ -57,7 +64,7 @@ pub fn frame(session: &[u8]) -> Outcome
 
 // helper: count records from start on, which are to end where the trailer begins.
 pub fn check_records(session: &[u8], start: usize, count: usize) -> Checked
-    requires { ⌜ count ≤ 4096 ⌝ }
+    requires { ⌜ count ≤ mostRecords ⌝ }
     ensures { λ r. ⌜ checkedOf r ≡ sizedOf (recordsEnd (length (now (session .entry)))) (model.readFrom count (now (session .entry)) start) ⌝ }
 {
     let mut at = start;
@@ -89,7 +96,7 @@ pub fn check(session: &[u8]) -> Checked
     let length = session.len();
     check_records(
         session,
-        get4(session, length - 8),
+        get4(session, length - TRAILER),
         get2(session, length - 4),
     )
 }

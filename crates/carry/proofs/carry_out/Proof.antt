@@ -3,7 +3,7 @@ use mathlib.Core.Path.{refl}
 use native.Mathlib.Omega.{arith}
 use borrow.Author.Needs.{needs}
 use Rattle.model.specs.Apply as any
-use Rattle.record.specs.RecordLaws.{between-some}
+use Rattle.record.specs.DataLaws.{between-some}
 use Rattle.carry.proofs.carry_out.Statement.{statement}
 use Rattle.carry.proofs.carry_out.Tie as tie
 
@@ -17,7 +17,9 @@ enum-told-2 : tie.Need-enum-told-2
 enum-told-2 c = search needs
 
 answer-to-reset-requires : tie.Need-answer-to-reset-requires
-answer-to-reset-requires c κs = (search needs, rw (c .before .before .enum-told2 .given .1) at (c .before .before .before .before .before .before .before .pre .room))
+answer-to-reset-requires c κs =
+    let start = c .before .before .before .before .before .before .before in
+    (search needs, rw (c .before .before .enum-told2 .given .1) at (start .pre .room))
 
 enum-known-kind : tie.Need-enum-known-kind
 enum-known-kind c = search needs
@@ -32,16 +34,23 @@ cast-read-zone : tie.Need-cast-read-zone
 cast-read-zone c = search needs
 
 read-zone-requires : tie.Need-read-zone-requires
-read-zone-requires c κs = (search needs, search needs, rw (c .before .before .before .kind2 .given .1) at (c .before .before .before .before .before .before .before .before .pre .room))
+read-zone-requires c κs =
+    let start = c .before .before .before .before .before .before .before .before in
+    let kind2 = c .before .before .before .kind2 in
+    (search needs, search needs, rw (kind2 .given .1) at (start .pre .room))
 
 enum-known-kind-3 : tie.Need-enum-known-kind-3
 enum-known-kind-3 c = search needs
 
 sub-write-zone : tie.Need-sub-write-zone
-sub-write-zone c = let f = rw (c .before .before .kind3 .given .1) at (c .before .before .before .before .before .before .before .pre .fields) in omega (arith, between-some 3 (c .before .before .before .before .before .before .before .args .end) (c .before .before .before .before .before .before .before .args .«record» .now) (f .0))
+sub-write-zone c =
+    let start = c .before .before .before .before .before .before .before in
+    let f = rw (c .before .before .kind3 .given .1) at (start .pre .fields) in omega (arith, between-some 3 (start .args .end) (start .args .«record» .now) (f .0))
 
 part-write-zone-start : tie.Need-part-write-zone-start
-part-write-zone-start c = let f = rw (c .before .before .kind3 .given .1) at (c .before .before .before .before .before .before .before .pre .fields) in omega (arith, between-some 3 (c .before .before .before .before .before .before .before .args .end) (c .before .before .before .before .before .before .before .args .«record» .now) (f .0))
+part-write-zone-start c =
+    let start = c .before .before .before .before .before .before .before in
+    let f = rw (c .before .before .kind3 .given .1) at (start .pre .fields) in omega (arith, between-some 3 (start .args .end) (start .args .«record» .now) (f .0))
 
 part-write-zone-end : tie.Need-part-write-zone-end
 part-write-zone-end c = search needs
@@ -56,28 +65,40 @@ cast-read-configuration : tie.Need-cast-read-configuration
 cast-read-configuration c = search needs
 
 read-configuration-requires : tie.Need-read-configuration-requires
-read-configuration-requires c κs = (search needs, (rw (c .before .before .before .kind4 .given .1) at (c .before .before .before .before .before .before .before .before .pre .fields)) .1, rw (c .before .before .before .kind4 .given .1) at (c .before .before .before .before .before .before .before .before .pre .room))
+read-configuration-requires c κs =
+    let start = c .before .before .before .before .before .before .before .before in
+    let kind4 = c .before .before .before .kind4 in
+    (search needs, (rw (kind4 .given .1) at (start .pre .fields)) .1, rw (kind4 .given .1) at (start .pre .room))
 
 enum-known-kind-5 : tie.Need-enum-known-kind-5
 enum-known-kind-5 c = search needs
 
 sub-write-configuration : tie.Need-sub-write-configuration
-sub-write-configuration c = let f = rw (c .before .before .kind5 .given .1) at (c .before .before .before .before .before .before .before .pre .fields) in omega (arith, between-some 3 (c .before .before .before .before .before .before .before .args .end) (c .before .before .before .before .before .before .before .args .«record» .now) (f .1))
+sub-write-configuration c =
+    let start = c .before .before .before .before .before .before .before in
+    let f = rw (c .before .before .kind5 .given .1) at (start .pre .fields) in omega (arith, between-some 3 (start .args .end) (start .args .«record» .now) (f .1))
 
 part-write-configuration-start : tie.Need-part-write-configuration-start
-part-write-configuration-start c = let f = rw (c .before .before .kind5 .given .1) at (c .before .before .before .before .before .before .before .pre .fields) in omega (arith, between-some 3 (c .before .before .before .before .before .before .before .args .end) (c .before .before .before .before .before .before .before .args .«record» .now) (f .1))
+part-write-configuration-start c =
+    let start = c .before .before .before .before .before .before .before in
+    let f = rw (c .before .before .kind5 .given .1) at (start .pre .fields) in omega (arith, between-some 3 (start .args .end) (start .args .«record» .now) (f .1))
 
 part-write-configuration-end : tie.Need-part-write-configuration-end
 part-write-configuration-end c = search needs
 
 write-configuration-requires : tie.Need-write-configuration-requires
-write-configuration-requires c κs = (search needs, (rw (c .before .before .before .kind5 .given .1) at (c .before .before .before .before .before .before .before .before .pre .fields)) .0)
+write-configuration-requires c κs =
+    let start = c .before .before .before .before .before .before .before .before in
+    let kind5 = c .before .before .before .kind5 in
+    (search needs, (rw (kind5 .given .1) at (start .pre .fields)) .0)
 
 enum-told-3 : tie.Need-enum-told-3
 enum-told-3 c = search needs
 
 read-fuses-requires : tie.Need-read-fuses-requires
-read-fuses-requires c κs = (search needs, rw (c .before .before .enum-told3 .given .1) at (c .before .before .before .before .before .before .before .pre .room))
+read-fuses-requires c κs =
+    let start = c .before .before .before .before .before .before .before in
+    (search needs, rw (c .before .before .enum-told3 .given .1) at (start .pre .room))
 
 enum-told-4 : tie.Need-enum-told-4
 enum-told-4 c = search needs
@@ -89,16 +110,23 @@ enum-known-kind-6 : tie.Need-enum-known-kind-6
 enum-known-kind-6 c = search needs
 
 sub-verify-password : tie.Need-sub-verify-password
-sub-verify-password c = let f = rw (c .before .before .kind6 .given .1) at (c .before .before .before .before .before .before .before .pre .fields) in omega (arith, between-some 2 (c .before .before .before .before .before .before .before .args .end) (c .before .before .before .before .before .before .before .args .«record» .now) (omega (arith, f .1)))
+sub-verify-password c =
+    let start = c .before .before .before .before .before .before .before in
+    let f = rw (c .before .before .kind6 .given .1) at (start .pre .fields) in omega (arith, between-some 2 (start .args .end) (start .args .«record» .now) (omega (arith, f .1)))
 
 part-verify-password-start : tie.Need-part-verify-password-start
-part-verify-password-start c = let f = rw (c .before .before .kind6 .given .1) at (c .before .before .before .before .before .before .before .pre .fields) in omega (arith, between-some 2 (c .before .before .before .before .before .before .before .args .end) (c .before .before .before .before .before .before .before .args .«record» .now) (omega (arith, f .1)))
+part-verify-password-start c =
+    let start = c .before .before .before .before .before .before .before in
+    let f = rw (c .before .before .kind6 .given .1) at (start .pre .fields) in omega (arith, between-some 2 (start .args .end) (start .args .«record» .now) (omega (arith, f .1)))
 
 part-verify-password-end : tie.Need-part-verify-password-end
 part-verify-password-end c = search needs
 
 verify-password-requires : tie.Need-verify-password-requires
-verify-password-requires c κs = (search needs, (rw (c .before .before .before .kind6 .given .1) at (c .before .before .before .before .before .before .before .before .pre .fields)) .1)
+verify-password-requires c κs =
+    let start = c .before .before .before .before .before .before .before .before in
+    let kind6 = c .before .before .before .kind6 in
+    (search needs, (rw (kind6 .given .1) at (start .pre .fields)) .1)
 
 enum-told-5 : tie.Need-enum-told-5
 enum-told-5 c = search needs
@@ -110,16 +138,23 @@ enum-known-kind-7 : tie.Need-enum-known-kind-7
 enum-known-kind-7 c = search needs
 
 sub-verify-authentication : tie.Need-sub-verify-authentication
-sub-verify-authentication c = let f = rw (c .before .before .kind7 .given .1) at (c .before .before .before .before .before .before .before .pre .fields) in omega (arith, between-some 2 (c .before .before .before .before .before .before .before .args .end) (c .before .before .before .before .before .before .before .args .«record» .now) (omega (arith, f)))
+sub-verify-authentication c =
+    let start = c .before .before .before .before .before .before .before in
+    let f = rw (c .before .before .kind7 .given .1) at (start .pre .fields) in omega (arith, between-some 2 (start .args .end) (start .args .«record» .now) (omega (arith, f)))
 
 part-verify-authentication-start : tie.Need-part-verify-authentication-start
-part-verify-authentication-start c = let f = rw (c .before .before .kind7 .given .1) at (c .before .before .before .before .before .before .before .pre .fields) in omega (arith, between-some 2 (c .before .before .before .before .before .before .before .args .end) (c .before .before .before .before .before .before .before .args .«record» .now) (omega (arith, f)))
+part-verify-authentication-start c =
+    let start = c .before .before .before .before .before .before .before in
+    let f = rw (c .before .before .kind7 .given .1) at (start .pre .fields) in omega (arith, between-some 2 (start .args .end) (start .args .«record» .now) (omega (arith, f)))
 
 part-verify-authentication-end : tie.Need-part-verify-authentication-end
 part-verify-authentication-end c = search needs
 
 verify-authentication-requires : tie.Need-verify-authentication-requires
-verify-authentication-requires c κs = (search needs, rw (c .before .before .before .kind7 .given .1) at (c .before .before .before .before .before .before .before .before .pre .fields))
+verify-authentication-requires c κs =
+    let start = c .before .before .before .before .before .before .before .before in
+    let kind7 = c .before .before .before .kind7 in
+    (search needs, rw (kind7 .given .1) at (start .pre .fields))
 
 returns : tie.Need-returns
 unfolding any.apply
@@ -133,7 +168,9 @@ same-length-2 c = search needs
 
 returns-2 : tie.Need-returns-2
 unfolding any.apply
-returns-2 c = rw (c .before .before .before .before .before .enum-told2 .given .1) (record { card = refl; state = c .before .before .answer-to-reset .ensures .0; answer = c .before .before .answer-to-reset .ensures .1 })
+returns-2 c =
+    let enum-told2 = c .before .before .before .before .before .enum-told2 in
+    rw (enum-told2 .given .1) (record { card = refl; state = c .before .before .answer-to-reset .ensures .0; answer = c .before .before .answer-to-reset .ensures .1 })
 
 returns-3 : tie.Need-returns-3
 unfolding any.apply
@@ -147,14 +184,18 @@ same-length-4 c = search needs
 
 returns-4 : tie.Need-returns-4
 unfolding any.apply
-returns-4 c = rw (c .before .before .before .before .before .before .kind2 .given .1) (record { card = refl; state = refl; answer = c .before .before .read-zone .ensures })
+returns-4 c =
+    let kind2 = c .before .before .before .before .before .before .kind2 in
+    rw (kind2 .given .1) (record { card = refl; state = refl; answer = c .before .before .read-zone .ensures })
 
 same-length-5 : tie.Need-same-length-5
 same-length-5 c = search needs
 
 returns-5 : tie.Need-returns-5
 unfolding any.apply
-returns-5 c = rw (c .before .before .before .before .before .before .kind3 .given .1) (record { card = c .before .before .write-zone .ensures; state = refl; answer = refl })
+returns-5 c =
+    let kind3 = c .before .before .before .before .before .before .kind3 in
+    rw (kind3 .given .1) (record { card = c .before .before .write-zone .ensures; state = refl; answer = refl })
 
 same-length-6 : tie.Need-same-length-6
 same-length-6 c = search needs
@@ -164,14 +205,18 @@ same-length-7 c = search needs
 
 returns-6 : tie.Need-returns-6
 unfolding any.apply
-returns-6 c = rw (c .before .before .before .before .before .before .kind4 .given .1) (record { card = refl; state = refl; answer = c .before .before .read-configuration .ensures })
+returns-6 c =
+    let kind4 = c .before .before .before .before .before .before .kind4 in
+    rw (kind4 .given .1) (record { card = refl; state = refl; answer = c .before .before .read-configuration .ensures })
 
 same-length-8 : tie.Need-same-length-8
 same-length-8 c = search needs
 
 returns-7 : tie.Need-returns-7
 unfolding any.apply
-returns-7 c = rw (c .before .before .before .before .before .before .kind5 .given .1) (record { card = c .before .before .write-configuration .ensures; state = refl; answer = refl })
+returns-7 c =
+    let kind5 = c .before .before .before .before .before .before .kind5 in
+    rw (kind5 .given .1) (record { card = c .before .before .write-configuration .ensures; state = refl; answer = refl })
 
 same-length-9 : tie.Need-same-length-9
 same-length-9 c = search needs
@@ -181,35 +226,45 @@ same-length-10 c = search needs
 
 returns-8 : tie.Need-returns-8
 unfolding any.apply
-returns-8 c = rw (c .before .before .before .before .before .enum-told3 .given .1) (record { card = refl; state = refl; answer = c .before .before .read-fuses .ensures })
+returns-8 c =
+    let enum-told3 = c .before .before .before .before .before .enum-told3 in
+    rw (enum-told3 .given .1) (record { card = refl; state = refl; answer = c .before .before .read-fuses .ensures })
 
 same-length-11 : tie.Need-same-length-11
 same-length-11 c = search needs
 
 returns-9 : tie.Need-returns-9
 unfolding any.apply
-returns-9 c = rw (c .before .before .before .before .enum-told4 .given .1) (record { card = c .before .before .write-fuses .ensures; state = refl; answer = refl })
+returns-9 c =
+    let enum-told4 = c .before .before .before .before .enum-told4 in
+    rw (enum-told4 .given .1) (record { card = c .before .before .write-fuses .ensures; state = refl; answer = refl })
 
 same-length-12 : tie.Need-same-length-12
 same-length-12 c = search needs
 
 returns-10 : tie.Need-returns-10
 unfolding any.apply
-returns-10 c = rw (c .before .before .before .before .before .before .kind6 .given .1) (record { card = c .before .before .verify-password .ensures .1; state = c .before .before .verify-password .ensures .0; answer = refl })
+returns-10 c =
+    let kind6 = c .before .before .before .before .before .before .kind6 in
+    rw (kind6 .given .1) (record { card = c .before .before .verify-password .ensures .1; state = c .before .before .verify-password .ensures .0; answer = refl })
 
 same-length-13 : tie.Need-same-length-13
 same-length-13 c = search needs
 
 returns-11 : tie.Need-returns-11
 unfolding any.apply
-returns-11 c = rw (c .before .before .before .before .enum-told5 .given .1) (record { card = c .before .before .begin-authentication .ensures .1; state = c .before .before .begin-authentication .ensures .0; answer = refl })
+returns-11 c =
+    let enum-told5 = c .before .before .before .before .enum-told5 in
+    rw (enum-told5 .given .1) (record { card = c .before .before .begin-authentication .ensures .1; state = c .before .before .begin-authentication .ensures .0; answer = refl })
 
 same-length-14 : tie.Need-same-length-14
 same-length-14 c = search needs
 
 returns-12 : tie.Need-returns-12
 unfolding any.apply
-returns-12 c = rw (c .before .before .before .before .before .before .kind7 .given .1) (record { card = c .before .before .verify-authentication .ensures .1; state = c .before .before .verify-authentication .ensures .0; answer = refl })
+returns-12 c =
+    let kind7 = c .before .before .before .before .before .before .kind7 in
+    rw (kind7 .given .1) (record { card = c .before .before .verify-authentication .ensures .1; state = c .before .before .verify-authentication .ensures .0; answer = refl })
 
 pub carry-out-spec : {M : Type 1} → statement M
 carry-out-spec =

@@ -2,7 +2,7 @@
 use mathlib.Core.Path.{sym, ap, _∙_}
 use borrow.Author.Needs.{needs}
 use Rattle.command.specs.Alone.{answer-alone}
-use Rattle.record.specs.Record.{decodedOf}
+use Rattle.record.specs.DecodedRecord.{decodedOf}
 use Rattle.command.proofs.CommandLaws.{call-refused, ready, call-carried}
 use Rattle.command.proofs.command.Statement.{statement}
 use Rattle.command.proofs.command.Tie as tie
@@ -23,13 +23,20 @@ cast-length : tie.Need-cast-length
 cast-length c = search needs
 
 carry-out-requires : tie.Need-carry-out-requires
-carry-out-requires c κs = ready _ _ _ _ _ _ (sym (ap (decodedOf (c .before .before .before .before .before .before .before .before .before .before .before .args .«record» .now)) (c .before .before .before .before .kind .given .1)) ∙ c .before .before .before .before .before .before .admit .ensures)
+carry-out-requires c κs =
+    let start = c .before .before .before .before .before .before .before .before .before .before .before in
+    let admit = c .before .before .before .before .before .before .admit in
+    let kind = c .before .before .before .before .kind in
+    ready _ _ _ _ _ _ (sym (ap (decodedOf (start .args .«record» .now)) (kind .given .1)) ∙ admit .ensures)
 
 same-length : tie.Need-same-length
 same-length c = search needs
 
 returns : tie.Need-returns
-returns c = call-refused _ _ _ _ _ (sym (ap (decodedOf (c .before .before .before .before .before .before .before .before .args .«record» .now)) (c .before .why .given .1)) ∙ c .before .before .before .admit .ensures)
+returns c =
+    let start = c .before .before .before .before .before .before .before .before in
+    let admit = c .before .before .before .admit in
+    call-refused _ _ _ _ _ (sym (ap (decodedOf (start .args .«record» .now)) (c .before .why .given .1)) ∙ admit .ensures)
 
 same-length-2 : tie.Need-same-length-2
 same-length-2 c = search needs
@@ -38,8 +45,14 @@ same-length-3 : tie.Need-same-length-3
 same-length-3 c = search needs
 
 returns-2 : tie.Need-returns-2
-returns-2 c = call-carried _ _ _ _ _ _ (sym (ap (decodedOf (c .before .before .before .before .before .before .before .before .before .before .before .before .before .before .before .before .args .«record» .now)) (c .before .before .before .before .before .before .before .before .before .kind .given .1)) ∙ c .before .before .before .before .before .before .before .before .before .before .before .admit .ensures) _ _ _ _
-    (c .before .before .before .before .before .before .before .answer-length .ensures ∙ sym (answer-alone (c .before .before .before .before .before .before .before .before .before .before .before .before .before .before .before .before .args .«record» .now) (c .before .before .before .before .before .before .before .before .before .kind .given .0 .1 .0) (c .before .before .before .before .before .before .before .before .before .kind .given .0 .0))) (c .before .before .before .before .carry-out .ensures)
+returns-2 c =
+    let start = c .before .before .before .before .before .before .before .before .before .before .before .before .before .before .before .before in
+    let admit = c .before .before .before .before .before .before .before .before .before .before .before .admit in
+    let kind = c .before .before .before .before .before .before .before .before .before .kind in
+    let answer-length = c .before .before .before .before .before .before .before .answer-length in
+    let carry-out = c .before .before .before .before .carry-out in
+    call-carried _ _ _ _ _ _ (sym (ap (decodedOf (start .args .«record» .now)) (kind .given .1)) ∙ admit .ensures) _ _ _ _
+    (answer-length .ensures ∙ sym (answer-alone (start .args .«record» .now) (kind .given .0 .1 .0) (kind .given .0 .0))) (carry-out .ensures)
 
 pub command-spec : {M : Type 1} → statement M
 command-spec =

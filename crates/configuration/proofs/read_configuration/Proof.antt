@@ -9,7 +9,7 @@ use Rattle.configuration.proofs.ConfigurationLaws.{read-configuration}
 use Rattle.access.specs.Column.{columnAllows}
 use Rattle.access.specs.State.{activeOf}
 use Rattle.model.specs.Lists.{at, tab}
-use Rattle.model.specs.Loops.{tab-start, tab-next, tab-done}
+use Rattle.laws.specs.Loops.{tab-start, tab-next, tab-done}
 use Rattle.configuration.proofs.read_configuration.Statement.{statement}
 use Rattle.configuration.proofs.read_configuration.Tie as tie
 

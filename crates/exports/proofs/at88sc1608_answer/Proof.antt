@@ -23,13 +23,19 @@ enum-known-from : tie.Need-enum-known-from
 enum-known-from c = search needs
 
 answer-number-requires : tie.Need-answer-number-requires
-answer-number-requires c κs = answer-small _ _ _ _ (sym (c .before .before .before .find .ensures) ∙ ap foundOf (c .before .from .given .1))
+answer-number-requires c κs =
+    let find = c .before .before .before .find in
+    answer-small _ _ _ _ (sym (find .ensures) ∙ ap foundOf (c .before .from .given .1))
 
 returns : tie.Need-returns
-returns c = c .number .ensures ∙ ap exportedAnswer (sym (ap foundOf (c .before .before .why .given .1)) ∙ c .before .before .before .before .find .ensures)
+returns c =
+    let find = c .before .before .before .before .find in
+    c .number .ensures ∙ ap exportedAnswer (sym (ap foundOf (c .before .before .why .given .1)) ∙ find .ensures)
 
 returns-2 : tie.Need-returns-2
-returns-2 c = c .answer-number .ensures ∙ ap exportedAnswer (sym (ap foundOf (c .before .before .from .given .1)) ∙ c .before .before .before .before .find .ensures)
+returns-2 c =
+    let find = c .before .before .before .before .find in
+    c .answer-number .ensures ∙ ap exportedAnswer (sym (ap foundOf (c .before .before .from .given .1)) ∙ find .ensures)
 
 pub at88sc1608-answer-spec : {M : Type 1} → statement M
 at88sc1608-answer-spec =

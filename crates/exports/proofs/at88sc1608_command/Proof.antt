@@ -12,10 +12,17 @@ command-requires : tie.Need-command-requires
 command-requires c κs = search needs
 
 write-state-requires : tie.Need-write-state-requires
-write-state-requires c κs = accepted-long _ _ _ _ _ (c .before .before .before .before .before .before .before .before .before .read-state .ensures) _ (c .before .before .before .before .before .before .command .ensures)
+write-state-requires c κs =
+    let read-state = c .before .before .before .before .before .before .before .before .before .read-state in
+    let command = c .before .before .before .before .before .before .command in
+    accepted-long _ _ _ _ _ (read-state .ensures) _ (command .ensures)
 
 result-number-requires : tie.Need-result-number-requires
-result-number-requires c κs = response-fits _ _ _ _ _ (c .before .before .before .before .before .before .before .before .before .before .before .before .read-state .ensures) _ (c .before .before .before .before .before .before .before .before .before .command .ensures) (λ i. omega (arith, c .before .before .before .before .before .before .before .before .before .before .before .before .before .before .before .shared-slice-known .given i))
+result-number-requires c κs =
+    let shared-slice-known = c .before .before .before .before .before .before .before .before .before .before .before .before .before .before .before .shared-slice-known in
+    let read-state = c .before .before .before .before .before .before .before .before .before .before .before .before .read-state in
+    let command = c .before .before .before .before .before .before .before .before .before .command in
+    response-fits _ _ _ _ _ (read-state .ensures) _ (command .ensures) (λ i. omega (arith, shared-slice-known .given i))
 
 same-length : tie.Need-same-length
 same-length c = search needs
@@ -27,7 +34,11 @@ same-length-3 : tie.Need-same-length-3
 same-length-3 c = search needs
 
 returns : tie.Need-returns
-returns c = command-told _ _ _ _ _ (c .before .before .before .before .before .before .before .before .before .before .before .before .before .read-state .ensures) _ (c .before .before .before .before .before .before .before .before .before .before .command .ensures) _ _ (c .result-number .ensures) (c .before .before .before .write-state .ensures)
+returns c =
+    let read-state = c .before .before .before .before .before .before .before .before .before .before .before .before .before .read-state in
+    let command = c .before .before .before .before .before .before .before .before .before .before .command in
+    let write-state = c .before .before .before .write-state in
+    command-told _ _ _ _ _ (read-state .ensures) _ (command .ensures) _ _ (c .result-number .ensures) (write-state .ensures)
 
 pub at88sc1608-command-spec : {M : Type 1} → statement M
 at88sc1608-command-spec =

@@ -9,7 +9,9 @@ run-requires : tie.Need-run-requires
 run-requires c κs = search needs
 
 result-number-requires : tie.Need-result-number-requires
-result-number-requires c κs = log-fits _ _ _ (c .before .before .run .ensures) (λ i. omega (arith, c .before .before .before .before .before .shared-slice-known .given i))
+result-number-requires c κs =
+    let shared-slice-known = c .before .before .before .before .before .shared-slice-known in
+    log-fits _ _ _ (c .before .before .run .ensures) (λ i. omega (arith, shared-slice-known .given i))
 
 same-length : tie.Need-same-length
 same-length c = search needs

@@ -4,7 +4,7 @@ use lib.Seq.{length-take-le}
 use mathlib.Core.Path.{sym, ap}
 use Rattle.command.specs.Reply.{outcomeNumber}
 use Rattle.text.proofs.PutLaws.{put-length}
-use Rattle.listing.proofs.ListLaws.{list-put, refused-listing, within, log-ready, accepted-listing}
+use Rattle.listing.proofs.ListedLaws.{list-put, refused-listing, within, log-ready, accepted-listing}
 use Rattle.listing.proofs.list.Statement.{statement}
 use Rattle.listing.proofs.list.Tie as tie
 
@@ -24,13 +24,22 @@ enum-told : tie.Need-enum-told
 enum-told c = search needs
 
 slice-reshare-prefix-put-log : tie.Need-slice-reshare-prefix-put-log
-slice-reshare-prefix-put-log c = within _ _ _ (c .before .before .before .before .before .run .ensures) (λ i. c .before .before .before .before .before .before .before .before .before .shared-slice-known .given i .fits) (ap outcomeNumber (c .before .enum-told .given .1))
+slice-reshare-prefix-put-log c =
+    let shared-slice-known = c .before .before .before .before .before .before .before .before .before .shared-slice-known in
+    let run = c .before .before .before .before .before .run in
+    within _ _ _ (run .ensures) (λ i. shared-slice-known .given i .fits) (ap outcomeNumber (c .before .enum-told .given .1))
 
 slice-aggregate-put-log : tie.Need-slice-aggregate-put-log
-slice-aggregate-put-log c = sym (length-take-le _ _ (within _ _ _ (c .before .before .before .before .before .before .run .ensures) (λ i. c .before .before .before .before .before .before .before .before .before .before .shared-slice-known .given i .fits) (ap outcomeNumber (c .before .before .enum-told .given .1))))
+slice-aggregate-put-log c =
+    let shared-slice-known = c .before .before .before .before .before .before .before .before .before .before .shared-slice-known in
+    let run = c .before .before .before .before .before .before .run in
+    sym (length-take-le _ _ (within _ _ _ (run .ensures) (λ i. shared-slice-known .given i .fits) (ap outcomeNumber (c .before .before .enum-told .given .1))))
 
 put-log-requires : tie.Need-put-log-requires
-put-log-requires c κs = log-ready _ _ _ (c .before .before .before .before .before .before .run .ensures) (λ i. c .before .before .before .before .before .before .before .before .before .before .shared-slice-known .given i .fits) (ap outcomeNumber (c .before .before .enum-told .given .1))
+put-log-requires c κs =
+    let shared-slice-known = c .before .before .before .before .before .before .before .before .before .before .shared-slice-known in
+    let run = c .before .before .before .before .before .before .run in
+    log-ready _ _ _ (run .ensures) (λ i. shared-slice-known .given i .fits) (ap outcomeNumber (c .before .before .enum-told .given .1))
 
 least-requires-2 : tie.Need-least-requires-2
 least-requires-2 c κs = search needs
@@ -42,7 +51,11 @@ same-length-2 : tie.Need-same-length-2
 same-length-2 c = put-length _ _ _ _ _ (c .before .before .before .put-refusal .ensures)
 
 returns : tie.Need-returns
-returns c = list-put _ _ _ (c .before .before .before .before .before .before .before .before .before .before .run .ensures) _ _ _ _ _ (refused-listing _ _ _ (c .before .before .before .before .before .before .before .before .before .before .run .ensures) (c .before .before .before .before .before .before .outcome .given .0 .0) (ap outcomeNumber (c .before .before .before .before .before .before .outcome .given .1))) (c .before .before .before .put-refusal .ensures) (c .least .ensures)
+returns c =
+    let run = c .before .before .before .before .before .before .before .before .before .before .run in
+    let outcome = c .before .before .before .before .before .before .outcome in
+    let put-refusal = c .before .before .before .put-refusal in
+    list-put _ _ _ (run .ensures) _ _ _ _ _ (refused-listing _ _ _ (run .ensures) (outcome .given .0 .0) (ap outcomeNumber (outcome .given .1))) (put-refusal .ensures) (c .least .ensures)
 
 same-length-3 : tie.Need-same-length-3
 same-length-3 c = search needs
@@ -51,7 +64,12 @@ same-length-4 : tie.Need-same-length-4
 same-length-4 c = put-length _ _ _ _ _ (c .before .before .before .put-log .ensures)
 
 returns-2 : tie.Need-returns-2
-returns-2 c = list-put _ _ _ (c .before .before .before .before .before .before .before .before .before .before .run .ensures) _ _ _ _ _ (accepted-listing _ _ _ (c .before .before .before .before .before .before .before .before .before .before .run .ensures) (λ i. c .before .before .before .before .before .before .before .before .before .before .before .before .before .before .shared-slice-known .given i .fits) (ap outcomeNumber (c .before .before .before .before .before .before .enum-told .given .1))) (c .before .before .before .put-log .ensures) (c .least2 .ensures)
+returns-2 c =
+    let shared-slice-known = c .before .before .before .before .before .before .before .before .before .before .before .before .before .before .shared-slice-known in
+    let run = c .before .before .before .before .before .before .before .before .before .before .run in
+    let enum-told = c .before .before .before .before .before .before .enum-told in
+    let put-log = c .before .before .before .put-log in
+    list-put _ _ _ (run .ensures) _ _ _ _ _ (accepted-listing _ _ _ (run .ensures) (λ i. shared-slice-known .given i .fits) (ap outcomeNumber (enum-told .given .1))) (put-log .ensures) (c .least2 .ensures)
 
 pub list-spec : {M : Type 1} → statement M
 list-spec =

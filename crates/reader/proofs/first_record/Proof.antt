@@ -37,7 +37,7 @@ use denote.Triple.Walked.{says, Stays, stay-none, stay-none-slice, walkOf, goes-
 use denote.Exit.{yes}
 use denote.Triple.Clauses.{ensured, lasts}
 use Rattle.model.specs.Reader.{partAt, nextOf}
-use Rattle.record.specs.Record.{decodedOf}
+use Rattle.record.specs.DecodedRecord.{decodedOf}
 use Rattle.reader.specs.declared.Reader.{Reader}
 use Rattle.record.specs.declared.decoder.Decoded.{Decoded}
 use Rattle.reader.proofs.ReaderParts.{B}

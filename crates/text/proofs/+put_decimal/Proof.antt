@@ -61,7 +61,9 @@ put-decimal-returns : (t : ℕ) → put-decimal-lts.Need-returns (
   put-decimal-below t,
   put-decimal.Post,
 ) (put-decimal-at t) put-decimal.Post
-put-decimal-returns t c = last-digit _ (c .before .before .before .before .if1 .taken) _ _ _ _ (c .before .before .put .ensures)
+put-decimal-returns t c =
+    let if1 = c .before .before .before .before .if1 in
+    last-digit _ (if1 .taken) _ _ _ _ (c .before .before .put .ensures)
 
 put-decimal-put-decimal-requires : (t : ℕ) → put-decimal-lts.Need-put-decimal-requires (
   put-reads.Asked,
@@ -69,7 +71,9 @@ put-decimal-put-decimal-requires : (t : ℕ) → put-decimal-lts.Need-put-decima
   put-decimal-below t,
   put-decimal.Post,
 ) (put-decimal-at t) put-decimal.Post
-put-decimal-put-decimal-requires t c κs = (let e = c .before .before .before .pre .0 in let l = c .before .if1 .left in omega arith, let e = fewer-digits _ (c .before .if1 .left) in let p = c .before .before .before .pre .1 in omega arith)
+put-decimal-put-decimal-requires t c κs =
+    let start = c .before .before .before in
+    (let e = start .pre .0 in let l = c .before .if1 .left in omega arith, let e = fewer-digits _ (c .before .if1 .left) in let p = start .pre .1 in omega arith)
 
 put-decimal-cast-put-2 : (t : ℕ) → put-decimal-lts.Need-cast-put-2 (
   put-reads.Asked,
@@ -109,7 +113,10 @@ put-decimal-returns-2 : (t : ℕ) → put-decimal-lts.Need-returns-2 (
   put-decimal-below t,
   put-decimal.Post,
 ) (put-decimal-at t) put-decimal.Post
-put-decimal-returns-2 t c = more-digits _ (c .before .before .before .before .before .before .before .before .if1 .left) _ _ _ _ _ _ (c .before .before .before .before .before .before .put-decimal .ensures) (c .before .before .put2 .ensures)
+put-decimal-returns-2 t c =
+    let if1 = c .before .before .before .before .before .before .before .before .if1 in
+    let put-decimal = c .before .before .before .before .before .before .put-decimal in
+    more-digits _ (if1 .left) _ _ _ _ _ _ (put-decimal .ensures) (c .before .before .put2 .ensures)
 
 pub +put-decimal-spec : {M : Type 1} → statement M
 +put-decimal-spec = close μ-put-decimal λ t. put-decimal-lts.spec (

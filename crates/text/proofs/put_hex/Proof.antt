@@ -23,7 +23,13 @@ same-length : tie.Need-same-length
 same-length c = search needs
 
 returns : tie.Need-returns
-returns c = put-digits _ _ _ _ _ _ _ _ (c .before .before .before .before .before .before .before .before .before .before .before .before .before .before .before .args .byte) _ _ (c .before .before .before .before .before .before .before .before .hex-digit .ensures) (c .before .before .before .hex-digit2 .ensures) (c .before .before .before .before .before .before .before .before .before .before .before .before .put .ensures) (c .before .before .before .before .before .before .before .put2 .ensures) (c .before .before .put3 .ensures)
+returns c =
+    let start = c .before .before .before .before .before .before .before .before .before .before .before .before .before .before .before in
+    let put = c .before .before .before .before .before .before .before .before .before .before .before .before .put in
+    let hex-digit = c .before .before .before .before .before .before .before .before .hex-digit in
+    let put2 = c .before .before .before .before .before .before .before .put2 in
+    let hex-digit2 = c .before .before .before .hex-digit2 in
+    put-digits _ _ _ _ _ _ _ _ (start .args .byte) _ _ (hex-digit .ensures) (hex-digit2 .ensures) (put .ensures) (put2 .ensures) (c .before .before .put3 .ensures)
 
 pub put-hex-spec : {M : Type 1} → statement M
 put-hex-spec =

@@ -30,7 +30,10 @@ loop-less : tie.Need-loop-less Inv-loop μ-loop
 loop-less c = search needs
 
 loop-again : tie.Need-loop-again Inv-loop μ-loop
-loop-again c = hexing-next _ _ _ _ _ _ _ _ (c .before .before .before .before .before .before .loop .inv) (c .before .before .before .before .before .loop-test .taken) (c .before .before .put-hex .ensures)
+loop-again c =
+    let the-loop = c .before .before .before .before .before .before .loop in
+    let loop-test = c .before .before .before .before .before .loop-test in
+    hexing-next _ _ _ _ _ _ _ _ (the-loop .inv) (loop-test .taken) (c .before .before .put-hex .ensures)
 
 same-length : tie.Need-same-length Inv-loop μ-loop
 same-length c = put-length _ _ _ _ _ (c .before .loop .inv .front)

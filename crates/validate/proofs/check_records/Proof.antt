@@ -4,9 +4,9 @@ use native.Mathlib.Omega.{arith}
 use borrow.Author.Needs.{needs}
 use Rattle.command.specs.Alone.{answer-alone}
 use Rattle.model.specs.Reader.{partAt}
-use Rattle.model.specs.ReaderLaws.{next-within}
-use Rattle.record.specs.Record.{decodedOf}
-use Rattle.validate.proofs.CheckLaws.{Checking, checking-start, checking-refused, checking-next, checking-left, checking-done}
+use Rattle.laws.specs.ReaderLaws.{next-within}
+use Rattle.record.specs.DecodedRecord.{decodedOf}
+use Rattle.validate.proofs.SessionCheckLaws.{Checking, checking-start, checking-refused, checking-next, checking-left, checking-done}
 use Rattle.validate.proofs.check_records.Statement.{statement}
 use Rattle.validate.proofs.check_records.Tie as tie
 
@@ -26,13 +26,22 @@ enum-known-why : tie.Need-enum-known-why Inv-loop μ-loop
 enum-known-why c = search needs
 
 returns : tie.Need-returns Inv-loop μ-loop
-returns c = checking-refused _ _ _ _ _ _ (c .before .before .before .before .before .loop .inv) (c .before .before .before .before .loop-test .taken) _ (sym (ap (decodedOf (partAt (c .before .before .before .before .before .before .before .args .session .now) (c .before .before .before .before .before .loop .at))) (c .before .why .given .1)) ∙ c .before .before .before .next-at .ensures)
+returns c =
+    let start = c .before .before .before .before .before .before .before in
+    let the-loop = c .before .before .before .before .before .loop in
+    let loop-test = c .before .before .before .before .loop-test in
+    let next-at = c .before .before .before .next-at in
+    checking-refused _ _ _ _ _ _ (the-loop .inv) (loop-test .taken) _ (sym (ap (decodedOf (partAt (start .args .session .now) (the-loop .at))) (c .before .why .given .1)) ∙ next-at .ensures)
 
 enum-known-kind : tie.Need-enum-known-kind Inv-loop μ-loop
 enum-known-kind c = search needs
 
 add-at : tie.Need-add-at Inv-loop μ-loop
-add-at c = let w = next-within (c .before .before .before .before .before .before .before .args .session .now) (c .before .before .before .before .before .loop .at) _ _ (sym (c .before .before .before .next-at .ensures) ∙ ap (decodedOf (partAt (c .before .before .before .before .before .before .before .args .session .now) (c .before .before .before .before .before .loop .at))) (c .before .kind .given .1)) in omega arith
+add-at c =
+    let start = c .before .before .before .before .before .before .before in
+    let the-loop = c .before .before .before .before .before .loop in
+    let next-at = c .before .before .before .next-at in
+    let w = next-within (start .args .session .now) (the-loop .at) _ _ (sym (next-at .ensures) ∙ ap (decodedOf (partAt (start .args .session .now) (the-loop .at))) (c .before .kind .given .1)) in omega arith
 
 answer-length-requires : tie.Need-answer-length-requires Inv-loop μ-loop
 answer-length-requires c κs = search needs
@@ -53,18 +62,27 @@ loop-less : tie.Need-loop-less Inv-loop μ-loop
 loop-less c = search needs
 
 loop-again : tie.Need-loop-again Inv-loop μ-loop
-loop-again c = checking-next _ _ _ _ _ _ (c .before .before .before .before .before .before .loop .inv) (c .before .before .before .before .before .loop-test .taken) _ _ _
-    (sym (ap (decodedOf (partAt (c .before .before .before .before .before .before .before .before .args .session .now) (c .before .before .before .before .before .before .loop .at))) (c .before .before .kind .given .1)) ∙ c .before .before .before .before .next-at .ensures)
-    (c .answer-length .ensures ∙ sym (answer-alone (partAt (c .before .before .before .before .before .before .before .before .args .session .now) (c .before .before .before .before .before .before .loop .at)) (c .before .before .kind .given .0 .1 .0) (c .before .before .kind .given .0 .0))) (omega arith)
+loop-again c =
+    let start = c .before .before .before .before .before .before .before .before in
+    let the-loop = c .before .before .before .before .before .before .loop in
+    let loop-test = c .before .before .before .before .before .loop-test in
+    let next-at = c .before .before .before .before .next-at in
+    checking-next _ _ _ _ _ _ (the-loop .inv) (loop-test .taken) _ _ _
+    (sym (ap (decodedOf (partAt (start .args .session .now) (the-loop .at))) (c .before .before .kind .given .1)) ∙ next-at .ensures)
+    (c .answer-length .ensures ∙ sym (answer-alone (partAt (start .args .session .now) (the-loop .at)) (c .before .before .kind .given .0 .1 .0) (c .before .before .kind .given .0 .0))) (omega arith)
 
 records-end-requires : tie.Need-records-end-requires Inv-loop μ-loop
 records-end-requires c κs = search needs
 
 returns-2 : tie.Need-returns-2 Inv-loop μ-loop
-returns-2 c = checking-left _ _ _ _ _ _ (c .before .before .before .loop .inv) (search needs) _ (c .before .records-end .ensures) (c .if1 .taken)
+returns-2 c =
+    let the-loop = c .before .before .before .loop in
+    checking-left _ _ _ _ _ _ (the-loop .inv) (search needs) _ (c .before .records-end .ensures) (c .if1 .taken)
 
 returns-3 : tie.Need-returns-3 Inv-loop μ-loop
-returns-3 c = checking-done _ _ _ _ _ _ (c .before .before .before .loop .inv) (search needs) _ (c .before .records-end .ensures) (c .if1 .left)
+returns-3 c =
+    let the-loop = c .before .before .before .loop in
+    checking-done _ _ _ _ _ _ (the-loop .inv) (search needs) _ (c .before .records-end .ensures) (c .if1 .left)
 
 pub check-records-spec : {M : Type 1} → statement M
 check-records-spec =

@@ -1,6 +1,6 @@
 -- Each return by the tests that led to it.
 use borrow.Author.Needs.{needs}
-use Rattle.validate.proofs.CheckLaws.{too-short, too-long, no-53, no-45, start-low, start-high, many, bad-fuses, well}
+use Rattle.validate.proofs.SessionCheckLaws.{too-short, too-long, no-53, no-45, start-low, start-high, many, bad-fuses, well}
 use Rattle.validate.proofs.frame.Statement.{statement}
 use Rattle.validate.proofs.frame.Tie as tie
 

@@ -7,8 +7,8 @@ use borrow.Author.Needs.{needs}
 use borrow.Author.Tests.{le-ltb}
 use lib.Dec.{eqb}
 use Rattle.model.specs.Access.{areaOf}
-use Rattle.model.specs.Loops.{tests}
-use Rattle.model.specs.Tables.{agree-at}
+use Rattle.laws.specs.Loops.{tests}
+use Rattle.laws.specs.Tables.{agree-at}
 use Rattle.access.proofs.rights.area.Statement.{statement}
 use Rattle.access.proofs.rights.area.Tie as tie
 

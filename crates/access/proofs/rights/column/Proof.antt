@@ -5,7 +5,7 @@ use native.Mathlib.Omega.{arith}
 use borrow.Author.Needs.{needs}
 use Rattle.model.specs.Lists.{tab}
 use Rattle.model.specs.Access.{stageOf, permission, permissions}
-use Rattle.model.specs.AccessLaws.{stage-below}
+use Rattle.laws.specs.AccessLaws.{stage-below}
 use Rattle.access.proofs.rights.column.Statement.{statement}
 use Rattle.access.proofs.rights.column.Tie as tie
 
@@ -70,7 +70,9 @@ index-2-t50 c = search column-below
 
 returns : tie.Need-returns
 unfolding tab permission permissions
-returns c = rw (c .before .before .before .before .before .before .before .stage .ensures)
+returns c =
+    let stage = c .before .before .before .before .before .before .before .stage in
+    rw (stage .ensures)
 
 pub column-spec : {M : Type 1} → statement M
 column-spec =

@@ -1,6 +1,6 @@
 -- The code of the address's area, applied to its set.
 use borrow.Author.Needs.{needs}
-use Rattle.model.specs.AccessLaws.{area-below}
+use Rattle.laws.specs.AccessLaws.{area-below}
 use Rattle.access.proofs.rights.configuration_allows.Statement.{statement}
 use Rattle.access.proofs.rights.configuration_allows.Tie as tie
 

@@ -1,5 +1,5 @@
 -- Each arm by its value.
-use Rattle.model.specs.Loops.{tests}
+use Rattle.laws.specs.Loops.{tests}
 use Rattle.access.proofs.rights.is_fuse_byte.Statement.{statement}
 use Rattle.access.proofs.rights.is_fuse_byte.Tie as tie
 

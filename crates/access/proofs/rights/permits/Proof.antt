@@ -1,7 +1,7 @@
 -- Each return by the tests that led to it.
 use borrow.Author.Needs.{needs}
 use Rattle.model.specs.Access.{permits}
-use Rattle.model.specs.Loops.{tests}
+use Rattle.laws.specs.Loops.{tests}
 use Rattle.access.proofs.rights.permits.Statement.{statement}
 use Rattle.access.proofs.rights.permits.Tie as tie
 

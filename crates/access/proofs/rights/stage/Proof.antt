@@ -1,6 +1,6 @@
 -- Each return by the tests that led to it.
 use Rattle.model.specs.Access.{stageOf}
-use Rattle.model.specs.Loops.{tests}
+use Rattle.laws.specs.Loops.{tests}
 use Rattle.access.proofs.rights.stage.Statement.{statement}
 use Rattle.access.proofs.rights.stage.Tie as tie
 

@@ -1,6 +1,6 @@
 -- Each return by the tests that led to it.
 use borrow.Author.Needs.{needs}
-use Rattle.access.proofs.ZoneLaws.{not-read, is-read}
+use Rattle.access.proofs.ZoneRightLaws.{not-read, is-read}
 use Rattle.access.proofs.rights.zone_reads.Statement.{statement}
 use Rattle.access.proofs.rights.zone_reads.Tie as tie
 
@@ -17,13 +17,17 @@ returns : tie.Need-returns
 returns c = search not-read
 
 selector-requires : tie.Need-selector-requires
-selector-requires c κs = rw (c .before .before .before .before .fields .ensures) (search needs)
+selector-requires c κs =
+    let fields = c .before .before .before .before .fields in
+    rw (fields .ensures) (search needs)
 
 is-active-requires : tie.Need-is-active-requires
 is-active-requires c κs = search needs
 
 selector-requires-2 : tie.Need-selector-requires-2
-selector-requires-2 c κs = rw (c .before .before .before .before .before .before .fields .ensures) (search needs)
+selector-requires-2 c κs =
+    let fields = c .before .before .before .before .before .before .fields in
+    rw (fields .ensures) (search needs)
 
 is-active-requires-2 : tie.Need-is-active-requires-2
 is-active-requires-2 c κs = search needs

@@ -1,6 +1,6 @@
 -- Each return by the tests that led to it.
 use borrow.Author.Needs.{needs}
-use Rattle.access.proofs.ZoneLaws.{not-written, not-authorised, is-written}
+use Rattle.access.proofs.ZoneRightLaws.{not-written, not-authorised, is-written}
 use Rattle.access.proofs.rights.zone_writes.Statement.{statement}
 use Rattle.access.proofs.rights.zone_writes.Tie as tie
 
@@ -17,7 +17,9 @@ returns : tie.Need-returns
 returns c = search not-written
 
 selector-requires : tie.Need-selector-requires
-selector-requires c κs = rw (c .before .before .before .before .fields .ensures) (search needs)
+selector-requires c κs =
+    let fields = c .before .before .before .before .fields in
+    rw (fields .ensures) (search needs)
 
 is-active-requires : tie.Need-is-active-requires
 is-active-requires c κs = search needs

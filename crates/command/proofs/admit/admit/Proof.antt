@@ -2,7 +2,7 @@
 use mathlib.Core.Path.{sym, ap, _∙_}
 use borrow.Author.Needs.{needs}
 use Rattle.command.specs.Reply.{outcomeNumber}
-use Rattle.record.specs.Record.{decodedOf}
+use Rattle.record.specs.DecodedRecord.{decodedOf}
 use Rattle.command.proofs.AdmitLaws.{check-refused, record-refused, left-over, no-room, is-admitted}
 use Rattle.command.proofs.admit.admit.Statement.{statement}
 use Rattle.command.proofs.admit.admit.Tie as tie
@@ -14,7 +14,9 @@ enum-known-why : tie.Need-enum-known-why
 enum-known-why c = search needs
 
 returns : tie.Need-returns
-returns c = check-refused _ _ _ _ (c .before .why .given .0 .0) (sym (ap outcomeNumber (c .before .why .given .1)) ∙ c .before .before .before .check .ensures)
+returns c =
+    let check = c .before .before .before .check in
+    check-refused _ _ _ _ (c .before .why .given .0 .0) (sym (ap outcomeNumber (c .before .why .given .1)) ∙ check .ensures)
 
 enum-told : tie.Need-enum-told
 enum-told c = search needs
@@ -29,8 +31,13 @@ enum-known-kind : tie.Need-enum-known-kind
 enum-known-kind c = search needs
 
 returns-2 : tie.Need-returns-2
-returns-2 c = left-over _ _ _ _ (sym (ap outcomeNumber (c .before .before .before .before .before .enum-told .given .1)) ∙ c .before .before .before .before .before .before .before .check .ensures) (c .before .before .kind .given .0 .0) _
-    (sym (ap (decodedOf (c .before .before .before .before .before .before .before .before .before .before .args .«record» .now)) (c .before .before .kind .given .1)) ∙ c .before .before .before .before .decode .ensures) (c .if1 .taken)
+returns-2 c =
+    let start = c .before .before .before .before .before .before .before .before .before .before in
+    let check = c .before .before .before .before .before .before .before .check in
+    let enum-told = c .before .before .before .before .before .enum-told in
+    let decode = c .before .before .before .before .decode in
+    left-over _ _ _ _ (sym (ap outcomeNumber (enum-told .given .1)) ∙ check .ensures) (c .before .before .kind .given .0 .0) _
+    (sym (ap (decodedOf (start .args .«record» .now)) (c .before .before .kind .given .1)) ∙ decode .ensures) (c .if1 .taken)
 
 answer-length-requires : tie.Need-answer-length-requires
 answer-length-requires c κs = search needs
@@ -39,16 +46,33 @@ cast-if2 : tie.Need-cast-if2
 cast-if2 c = search needs
 
 returns-3 : tie.Need-returns-3
-returns-3 c = no-room _ _ _ _ (sym (ap outcomeNumber (c .before .before .before .before .before .before .before .enum-told .given .1)) ∙ c .before .before .before .before .before .before .before .before .before .check .ensures) (c .before .before .before .before .kind .given .0 .0) _
-    (sym (ap (decodedOf (c .before .before .before .before .before .before .before .before .before .before .before .before .args .«record» .now)) (c .before .before .before .before .kind .given .1)) ∙ c .before .before .before .before .before .before .decode .ensures) _ (c .before .before .if1 .left) (c .before .answer-length .ensures) (c .if2 .taken)
+returns-3 c =
+    let start = c .before .before .before .before .before .before .before .before .before .before .before .before in
+    let check = c .before .before .before .before .before .before .before .before .before .check in
+    let enum-told = c .before .before .before .before .before .before .before .enum-told in
+    let decode = c .before .before .before .before .before .before .decode in
+    let kind = c .before .before .before .before .kind in
+    no-room _ _ _ _ (sym (ap outcomeNumber (enum-told .given .1)) ∙ check .ensures) (kind .given .0 .0) _
+    (sym (ap (decodedOf (start .args .«record» .now)) (kind .given .1)) ∙ decode .ensures) _ (c .before .before .if1 .left) (c .before .answer-length .ensures) (c .if2 .taken)
 
 returns-4 : tie.Need-returns-4
-returns-4 c = record-refused _ _ _ _ (sym (ap outcomeNumber (c .before .before .before .before .enum-told .given .1)) ∙ c .before .before .before .before .before .before .check .ensures) _
-    (sym (ap (decodedOf (c .before .before .before .before .before .before .before .before .before .args .«record» .now)) (c .before .why2 .given .1)) ∙ c .before .before .before .decode .ensures)
+returns-4 c =
+    let start = c .before .before .before .before .before .before .before .before .before in
+    let check = c .before .before .before .before .before .before .check in
+    let enum-told = c .before .before .before .before .enum-told in
+    let decode = c .before .before .before .decode in
+    record-refused _ _ _ _ (sym (ap outcomeNumber (enum-told .given .1)) ∙ check .ensures) _
+    (sym (ap (decodedOf (start .args .«record» .now)) (c .before .why2 .given .1)) ∙ decode .ensures)
 
 returns-5 : tie.Need-returns-5
-returns-5 c = is-admitted _ _ _ _ (sym (ap outcomeNumber (c .before .before .before .before .before .before .before .enum-told .given .1)) ∙ c .before .before .before .before .before .before .before .before .before .check .ensures) (c .before .before .before .before .kind .given .0 .0) _
-    (sym (ap (decodedOf (c .before .before .before .before .before .before .before .before .before .before .before .before .args .«record» .now)) (c .before .before .before .before .kind .given .1)) ∙ c .before .before .before .before .before .before .decode .ensures) _ (c .before .before .if1 .left) (c .before .answer-length .ensures) (c .if2 .left)
+returns-5 c =
+    let start = c .before .before .before .before .before .before .before .before .before .before .before .before in
+    let check = c .before .before .before .before .before .before .before .before .before .check in
+    let enum-told = c .before .before .before .before .before .before .before .enum-told in
+    let decode = c .before .before .before .before .before .before .decode in
+    let kind = c .before .before .before .before .kind in
+    is-admitted _ _ _ _ (sym (ap outcomeNumber (enum-told .given .1)) ∙ check .ensures) (kind .given .0 .0) _
+    (sym (ap (decodedOf (start .args .«record» .now)) (kind .given .1)) ∙ decode .ensures) _ (c .before .before .if1 .left) (c .before .answer-length .ensures) (c .if2 .left)
 
 pub admit-spec : {M : Type 1} → statement M
 admit-spec =

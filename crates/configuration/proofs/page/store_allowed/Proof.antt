@@ -3,10 +3,10 @@ use Prim.Native.Nat.{_+_, _-_, _%_, _≤_}
 use mathlib.Core.Path.{_≡_}
 use borrow.Author.Needs.{needs}
 use lib.ListN.{length, drop}
-use Rattle.configuration.specs.Page.{allowedOf}
+use Rattle.configuration.specs.ConfigurationPage.{allowedOf}
 use Rattle.access.specs.State.{activeOf}
 use Rattle.model.specs.Lists.{stores}
-use Rattle.model.specs.Loops.{stores-next, stores-done}
+use Rattle.laws.specs.Loops.{stores-next, stores-done}
 use Rattle.configuration.proofs.page.store_allowed.Statement.{statement}
 use Rattle.configuration.proofs.page.store_allowed.Tie as tie
 

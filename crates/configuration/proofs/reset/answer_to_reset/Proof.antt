@@ -17,7 +17,9 @@ same-length : tie.Need-same-length
 same-length c = search needs
 
 returns : tie.Need-returns
-returns c = (search reset-state, rw reset-answer (c .before .before .before .before .reverse .ensures))
+returns c =
+    let reverse = c .before .before .before .before .reverse in
+    (search reset-state, rw reset-answer (reverse .ensures))
 
 pub answer-to-reset-spec : {M : Type 1} → statement M
 answer-to-reset-spec =

@@ -7,8 +7,9 @@ use mathlib.Core.Path.{_≡_}
 use native.Mathlib.Omega.{arith}
 use Rattle.model.specs.Bits.{reversed}
 use Rattle.model.specs.Lists.{at, tab}
-use Rattle.model.specs.Loops.{tab-start, tab-next, tab-done}
-use Rattle.model.specs.Reversal.{reversals, reversal-rule}
+use Rattle.laws.specs.Loops.{tab-start, tab-next, tab-done}
+use Rattle.model.specs.Reversal.{reversals}
+use Rattle.laws.specs.ReversalLaws.{reversal-rule}
 use Rattle.configuration.proofs.reversal.reverse.Statement.{statement}
 use Rattle.configuration.proofs.reversal.reverse.Tie as tie
 
@@ -28,10 +29,14 @@ shared-slice-read-byte : tie.Need-shared-slice-read-byte Inv-loop μ-loop
 shared-slice-read-byte c = search needs
 
 cast-byte : tie.Need-cast-byte Inv-loop μ-loop
-cast-byte c = let b = c .shared-slice-known .given (c .before .before .before .args .start + c .before .before .loop .i) .fits in record { fits = omega arith }
+cast-byte c =
+    let start = c .before .before .before in
+    let b = c .shared-slice-known .given (start .args .start + c .before .before .loop .i) .fits in record { fits = omega arith }
 
 array-read-to : tie.Need-array-read-to Inv-loop μ-loop
-array-read-to c = let b = c .shared-slice-known .given (c .before .before .before .args .start + c .before .before .loop .i) .fits in omega arith
+array-read-to c =
+    let start = c .before .before .before in
+    let b = c .shared-slice-known .given (start .args .start + c .before .before .loop .i) .fits in omega arith
 
 slice-write-to : tie.Need-slice-write-to Inv-loop μ-loop
 slice-write-to c = search needs
@@ -44,7 +49,9 @@ loop-less c = search needs
 
 loop-again : tie.Need-loop-again Inv-loop μ-loop
 unfolding reversals
-loop-again c = (search needs, search needs, tab-next (λ k. reversed (at (c .before .before .before .args .from .now) (c .before .before .before .args .start + k))) _ _ _ _ _ (c .before .before .loop .inv .2) (c .before .loop-test .taken) (c .before .before .before .pre .1) (reversal-rule _ (c .shared-slice-known .given (c .before .before .before .args .start + c .before .before .loop .i) .fits)))
+loop-again c =
+    let start = c .before .before .before in
+    (search needs, search needs, tab-next (λ k. reversed (at (start .args .from .now) (start .args .start + k))) _ _ _ _ _ (c .before .before .loop .inv .2) (c .before .loop-test .taken) (start .pre .1) (reversal-rule _ (c .shared-slice-known .given (start .args .start + c .before .before .loop .i) .fits)))
 
 same-length : tie.Need-same-length Inv-loop μ-loop
 same-length c = search needs

@@ -1,6 +1,6 @@
 -- Each return by the tests that led to it.
 use borrow.Author.Needs.{needs}
-use Rattle.exports.proofs.ByteLaws.{bad-length, bad-zone, bad-authentication, by-active}
+use Rattle.exports.proofs.StateByteLaws.{bad-length, bad-zone, bad-authentication, by-active}
 use Rattle.exports.proofs.state.is_state.Statement.{statement}
 use Rattle.exports.proofs.state.is_state.Tie as tie
 

@@ -4,7 +4,7 @@ use native.Mathlib.Omega.{arith}
 use borrow.Author.Needs.{needs}
 use lib.ListN.{length-set}
 use Rattle.command.specs.Reply.{outcomeNumber}
-use Rattle.exports.proofs.ByteLaws.{kept, rewritten}
+use Rattle.exports.proofs.StateByteLaws.{kept, rewritten}
 use Rattle.exports.proofs.state.write_state.Statement.{statement}
 use Rattle.exports.proofs.state.write_state.Tie as tie
 
@@ -42,7 +42,10 @@ same-length : tie.Need-same-length
 same-length c = search needs
 
 returns-2 : tie.Need-returns-2
-returns-2 c = rewritten _ _ _ _ _ _ (c .before .before .before .enum-told2 .given .1) (c .before .before .before .before .before .before .pre (ap outcomeNumber (c .before .before .before .enum-told2 .given .1))) (c .before .before .active-flag .ensures) (c .before .active-selector .ensures) (c .authentication-byte .ensures)
+returns-2 c =
+    let start = c .before .before .before .before .before .before in
+    let enum-told2 = c .before .before .before .enum-told2 in
+    rewritten _ _ _ _ _ _ (enum-told2 .given .1) (start .pre (ap outcomeNumber (enum-told2 .given .1))) (c .before .before .active-flag .ensures) (c .before .active-selector .ensures) (c .authentication-byte .ensures)
 
 pub write-state-spec : {M : Type 1} → statement M
 write-state-spec =

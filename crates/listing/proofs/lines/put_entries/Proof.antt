@@ -31,13 +31,20 @@ sub-put-line : tie.Need-sub-put-line Inv-loop μ-loop
 sub-put-line c = search needs
 
 part-put-line-start : tie.Need-part-put-line-start Inv-loop μ-loop
-part-put-line-start c = let h = entry-ends _ _ _ _ _ _ _ _ (c .before .before .before .loop .inv) (c .before .before .loop-test .taken) _ (c .before .get2 .ensures .0) in search needs
+part-put-line-start c =
+    let the-loop = c .before .before .before .loop in
+    let h = entry-ends _ _ _ _ _ _ _ _ (the-loop .inv) (c .before .before .loop-test .taken) _ (c .before .get2 .ensures .0) in search needs
 
 part-put-line-end : tie.Need-part-put-line-end Inv-loop μ-loop
-part-put-line-end c = let h = entry-ends _ _ _ _ _ _ _ _ (c .before .before .before .loop .inv) (c .before .before .loop-test .taken) _ (c .before .get2 .ensures .0) in search needs
+part-put-line-end c =
+    let the-loop = c .before .before .before .loop in
+    let h = entry-ends _ _ _ _ _ _ _ _ (the-loop .inv) (c .before .before .loop-test .taken) _ (c .before .get2 .ensures .0) in search needs
 
 put-line-requires : tie.Need-put-line-requires Inv-loop μ-loop
-put-line-requires c κs = (part-long _ _ _ _ _ _ _ _ (c .before .before .before .before .loop .inv) (c .before .before .before .loop-test .taken) _ (c .before .before .get2 .ensures .0), line-fits _ _ _ _ _ _ _ _ (c .before .before .before .before .loop .inv) (c .before .before .before .loop-test .taken) _ (c .before .before .get2 .ensures .0))
+put-line-requires c κs =
+    let the-loop = c .before .before .before .before .loop in
+    let loop-test = c .before .before .before .loop-test in
+    (part-long _ _ _ _ _ _ _ _ (the-loop .inv) (loop-test .taken) _ (c .before .before .get2 .ensures .0), line-fits _ _ _ _ _ _ _ _ (the-loop .inv) (loop-test .taken) _ (c .before .before .get2 .ensures .0))
 
 add-i : tie.Need-add-i Inv-loop μ-loop
 add-i c = search needs
@@ -46,7 +53,11 @@ loop-less : tie.Need-loop-less Inv-loop μ-loop
 loop-less c = search needs
 
 loop-again : tie.Need-loop-again Inv-loop μ-loop
-loop-again c = lining-next _ _ _ _ _ _ _ _ (c .before .before .before .before .before .before .before .loop .inv) (c .before .before .before .before .before .before .loop-test .taken) _ (c .before .before .before .before .before .get2 .ensures .0) _ _ (c .before .before .put-line .ensures)
+loop-again c =
+    let the-loop = c .before .before .before .before .before .before .before .loop in
+    let loop-test = c .before .before .before .before .before .before .loop-test in
+    let get2 = c .before .before .before .before .before .get2 in
+    lining-next _ _ _ _ _ _ _ _ (the-loop .inv) (loop-test .taken) _ (get2 .ensures .0) _ _ (c .before .before .put-line .ensures)
 
 same-length : tie.Need-same-length Inv-loop μ-loop
 same-length c = put-length _ _ _ _ _ (c .before .loop .inv .front)

@@ -12,25 +12,40 @@ get4-requires : tie.Need-get4-requires
 get4-requires c κs = let t = log-trailed _ (c .before .before .pre) .long in search needs
 
 sub-get2 : tie.Need-sub-get2
-sub-get2 c = let t = log-trailed _ (c .before .before .before .before .pre) .long in omega arith
+sub-get2 c =
+    let start = c .before .before .before .before in
+    let t = log-trailed _ (start .pre) .long in omega arith
 
 get2-requires : tie.Need-get2-requires
-get2-requires c κs = let t = log-trailed _ (c .before .before .before .before .pre) .long in search needs
+get2-requires c κs =
+    let start = c .before .before .before .before in
+    let t = log-trailed _ (start .pre) .long in search needs
 
 put-entries-requires : tie.Need-put-entries-requires
-put-entries-requires c κs = entries-ready _ (c .before .before .before .before .before .pre) _ _ (c .get2 .ensures .0) (c .before .before .get4 .ensures .0)
+put-entries-requires c κs =
+    let start = c .before .before .before .before .before in
+    entries-ready _ (start .pre) _ _ (c .get2 .ensures .0) (c .before .before .get4 .ensures .0)
 
 slice-aggregate-put-all : tie.Need-slice-aggregate-put-all
 slice-aggregate-put-all c = search needs
 
 put-all-requires : tie.Need-put-all-requires
-put-all-requires c κs = let r = entries-room _ (c .before .before .before .before .before .before .before .before .before .before .pre) _ _ (c .before .before .before .before .before .get2 .ensures .0) (c .before .before .before .before .before .before .before .get4 .ensures .0) _ _ _ (c .before .before .before .before .put-entries .ensures) in omega arith
+put-all-requires c κs =
+    let start = c .before .before .before .before .before .before .before .before .before .before in
+    let get4 = c .before .before .before .before .before .before .before .get4 in
+    let get2 = c .before .before .before .before .before .get2 in
+    let put-entries = c .before .before .before .before .put-entries in
+    let r = entries-room _ (start .pre) _ _ (get2 .ensures .0) (get4 .ensures .0) _ _ _ (put-entries .ensures) in omega arith
 
 add-put-hex : tie.Need-add-put-hex
 add-put-hex c = search needs
 
 shared-slice-read-put-hex : tie.Need-shared-slice-read-put-hex
-shared-slice-read-put-hex c = fuses-within _ (c .before .before .before .before .before .before .before .before .before .before .before .before .before .before .before .pre) _ _ (c .before .before .before .before .before .before .before .before .before .before .get2 .ensures .0) (c .before .before .before .before .before .before .before .before .before .before .before .before .get4 .ensures .0)
+shared-slice-read-put-hex c =
+    let start = c .before .before .before .before .before .before .before .before .before .before .before .before .before .before .before in
+    let get4 = c .before .before .before .before .before .before .before .before .before .before .before .before .get4 in
+    let get2 = c .before .before .before .before .before .before .before .before .before .before .get2 in
+    fuses-within _ (start .pre) _ _ (get2 .ensures .0) (get4 .ensures .0)
 
 put-hex-requires : tie.Need-put-hex-requires
 put-hex-requires c κs = let r = entries-room _ (c .before .before .before .before .before .before .before .before .before .before .before .before .before .before .before .pre) _ _ (c .before .before .before .before .before .before .before .before .before .before .get2 .ensures .0) (c .before .before .before .before .before .before .before .before .before .before .before .before .get4 .ensures .0) _ _ _ (c .before .before .before .before .before .before .before .before .before .put-entries .ensures) in let a = c .before .before .before .before .put-all .ensures .past in omega arith
@@ -42,7 +57,14 @@ same-length : tie.Need-same-length
 same-length c = search needs
 
 returns : tie.Need-returns
-returns c = log-put _ (c .before .before .before .before .before .before .before .before .before .before .before .before .before .before .before .before .before .before .before .before .before .before .pre) _ _ (c .before .before .before .before .before .before .before .before .before .before .before .before .before .before .before .before .before .get2 .ensures .0) (c .before .before .before .before .before .before .before .before .before .before .before .before .before .before .before .before .before .before .before .get4 .ensures .0) _ _ _ _ _ _ _ _ _ (c .before .before .before .before .before .before .before .before .before .before .before .before .before .before .before .before .put-entries .ensures) (c .before .before .before .before .before .before .before .before .before .before .before .put-all .ensures) (c .before .before .before .before .before .before .put-hex .ensures) (c .before .before .put .ensures)
+returns c =
+    let start = c .before .before .before .before .before .before .before .before .before .before .before .before .before .before .before .before .before .before .before .before .before .before in
+    let get4 = c .before .before .before .before .before .before .before .before .before .before .before .before .before .before .before .before .before .before .before .get4 in
+    let get2 = c .before .before .before .before .before .before .before .before .before .before .before .before .before .before .before .before .before .get2 in
+    let put-entries = c .before .before .before .before .before .before .before .before .before .before .before .before .before .before .before .before .put-entries in
+    let put-all = c .before .before .before .before .before .before .before .before .before .before .before .put-all in
+    let put-hex = c .before .before .before .before .before .before .put-hex in
+    log-put _ (start .pre) _ _ (get2 .ensures .0) (get4 .ensures .0) _ _ _ _ _ _ _ _ _ (put-entries .ensures) (put-all .ensures) (put-hex .ensures) (c .before .before .put .ensures)
 
 pub put-log-spec : {M : Type 1} → statement M
 put-log-spec =

@@ -28,7 +28,11 @@ same-length : tie.Need-same-length
 same-length c = search needs
 
 returns : tie.Need-returns
-returns c = rw (← c .before .before .before .before .before .before .before .number .ensures) (word-put _ _ _ _ _ _ _ _ _ _ (c .before .before .before .before .before .before .before .before .before .before .before .put-all .ensures) (c .before .before .before .before .before .before .put-decimal .ensures) (c .before .before .put .ensures))
+returns c =
+    let put-all = c .before .before .before .before .before .before .before .before .before .before .before .put-all in
+    let number = c .before .before .before .before .before .before .before .number in
+    let put-decimal = c .before .before .before .before .before .before .put-decimal in
+    rw (← number .ensures) (word-put _ _ _ _ _ _ _ _ _ _ (put-all .ensures) (put-decimal .ensures) (c .before .before .put .ensures))
 
 pub put-refusal-spec : {M : Type 1} → statement M
 put-refusal-spec =

@@ -1,6 +1,6 @@
 -- Each return by the tests that led to it.
 use borrow.Author.Needs.{needs}
-use Rattle.log.proofs.CheckLaws.{no-header, kind-zero, kind-large, misfit, ends-by}
+use Rattle.log.proofs.LogCheckLaws.{no-header, kind-zero, kind-large, misfit, ends-by}
 use Rattle.log.proofs.check.entry_ok.Statement.{statement}
 use Rattle.log.proofs.check.entry_ok.Tie as tie
 

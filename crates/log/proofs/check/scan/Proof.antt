@@ -1,7 +1,7 @@
 -- What is known before each entry is `Passing`.
 use Prim.Native.Nat.{_-_}
 use borrow.Author.Needs.{needs}
-use Rattle.log.proofs.CheckLaws.{Passing, passing-start, passing-next, passing-bad, passing-done}
+use Rattle.log.proofs.LogCheckLaws.{Passing, passing-start, passing-next, passing-bad, passing-done}
 use Rattle.log.proofs.check.scan.Statement.{statement}
 use Rattle.log.proofs.check.scan.Tie as tie
 
@@ -18,7 +18,9 @@ entry-ok-requires : tie.Need-entry-ok-requires Inv-loop μ-loop
 entry-ok-requires c κs = search needs
 
 returns : tie.Need-returns Inv-loop μ-loop
-returns c = passing-bad _ _ _ _ _ _ _ (c .before .before .before .loop .inv) _ (c .before .before .loop-test .taken) (c .before .entry-ok .ensures) (c .if1 .taken)
+returns c =
+    let the-loop = c .before .before .before .loop in
+    passing-bad _ _ _ _ _ _ _ (the-loop .inv) _ (c .before .before .loop-test .taken) (c .before .entry-ok .ensures) (c .if1 .taken)
 
 kept-requires : tie.Need-kept-requires Inv-loop μ-loop
 kept-requires c κs = search needs
@@ -42,7 +44,11 @@ loop-less : tie.Need-loop-less Inv-loop μ-loop
 loop-less c = search needs
 
 loop-again : tie.Need-loop-again Inv-loop μ-loop
-loop-again c = passing-next _ _ _ _ _ _ _ (c .before .before .before .before .before .loop .inv) _ _ _ (c .before .before .before .before .loop-test .taken) (c .before .before .before .entry-ok .ensures) (c .before .before .if1 .left) (c .get2 .ensures .0) (c .before .kept .ensures)
+loop-again c =
+    let the-loop = c .before .before .before .before .before .loop in
+    let loop-test = c .before .before .before .before .loop-test in
+    let entry-ok = c .before .before .before .entry-ok in
+    passing-next _ _ _ _ _ _ _ (the-loop .inv) _ _ _ (loop-test .taken) (entry-ok .ensures) (c .before .before .if1 .left) (c .get2 .ensures .0) (c .before .kept .ensures)
 
 returns-2 : tie.Need-returns-2 Inv-loop μ-loop
 returns-2 c = passing-done _ _ _ _ _ _ _ (c .before .loop .inv) (search needs)

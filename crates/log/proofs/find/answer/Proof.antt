@@ -27,7 +27,10 @@ enum-known-from : tie.Need-enum-known-from
 enum-known-from c = search needs
 
 add-to : tie.Need-add-to
-add-to c = let w = answer-within (c .before .before .before .before .before .args .log .now) (c .before .before .before .before .before .args .number) _ _ (sym (c .before .before .before .find .ensures) ∙ ap foundOf (c .before .from .given .1)) in omega arith
+add-to c =
+    let start = c .before .before .before .before .before in
+    let find = c .before .before .before .find in
+    let w = answer-within (start .args .log .now) (start .args .number) _ _ (sym (find .ensures) ∙ ap foundOf (c .before .from .given .1)) in omega arith
 
 sub-result-2 : tie.Need-sub-result-2
 sub-result-2 c = search needs
@@ -36,13 +39,20 @@ part-result-start-2 : tie.Need-part-result-start-2
 part-result-start-2 c = search needs
 
 part-result-end-2 : tie.Need-part-result-end-2
-part-result-end-2 c = let w = answer-within (c .before .before .before .before .before .args .log .now) (c .before .before .before .before .before .args .number) _ _ (sym (c .before .before .before .find .ensures) ∙ ap foundOf (c .before .from .given .1)) in omega arith
+part-result-end-2 c =
+    let start = c .before .before .before .before .before in
+    let find = c .before .before .before .find in
+    let w = answer-within (start .args .log .now) (start .args .number) _ _ (sym (find .ensures) ∙ ap foundOf (c .before .from .given .1)) in omega arith
 
 returns : tie.Need-returns
-returns c = rw (sym (c .before .before .before .find .ensures) ∙ ap foundOf (c .before .enum-told .given .1))
+returns c =
+    let find = c .before .before .before .find in
+    rw (sym (find .ensures) ∙ ap foundOf (c .before .enum-told .given .1))
 
 returns-2 : tie.Need-returns-2
-returns-2 c = rw (sym (c .before .before .before .before .find .ensures) ∙ ap foundOf (c .before .before .from .given .1), add-sub-cancel-left)
+returns-2 c =
+    let find = c .before .before .before .before .find in
+    rw (sym (find .ensures) ∙ ap foundOf (c .before .before .from .given .1), add-sub-cancel-left)
 
 pub answer-spec : {M : Type 1} → statement M
 answer-spec =

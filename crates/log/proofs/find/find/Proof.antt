@@ -12,46 +12,92 @@ returns : tie.Need-returns
 returns c = no-trailer _ _ _ (c .before .trailer-ok .ensures) (c .if1 .taken)
 
 sub-get2 : tie.Need-sub-get2
-sub-get2 c = let t = trailer-is (c .before .before .before .args .log .now) (c .before .before .before .args .number) _ (c .before .trailer-ok .ensures) (c .if1 .left) in omega arith
+sub-get2 c =
+    let start = c .before .before .before in
+    let t = trailer-is (start .args .log .now) (start .args .number) _ (c .before .trailer-ok .ensures) (c .if1 .left) in omega arith
 
 get2-requires : tie.Need-get2-requires
-get2-requires c κs = let t = trailer-is (c .before .before .before .args .log .now) (c .before .before .before .args .number) _ (c .before .trailer-ok .ensures) (c .if1 .left) in omega arith
+get2-requires c κs =
+    let start = c .before .before .before in
+    let t = trailer-is (start .args .log .now) (start .args .number) _ (c .before .trailer-ok .ensures) (c .if1 .left) in omega arith
 
 sub-get4 : tie.Need-sub-get4
-sub-get4 c = let t = trailer-is (c .before .before .before .before .args .log .now) (c .before .before .before .before .args .number) _ (c .before .before .trailer-ok .ensures) (c .before .if1 .left) in omega arith
+sub-get4 c =
+    let start = c .before .before .before .before in
+    let t = trailer-is (start .args .log .now) (start .args .number) _ (c .before .before .trailer-ok .ensures) (c .before .if1 .left) in omega arith
 
 get4-requires : tie.Need-get4-requires
-get4-requires c κs = let t = trailer-is (c .before .before .before .before .args .log .now) (c .before .before .before .before .args .number) _ (c .before .before .trailer-ok .ensures) (c .before .if1 .left) in omega arith
+get4-requires c κs =
+    let start = c .before .before .before .before in
+    let t = trailer-is (start .args .log .now) (start .args .number) _ (c .before .before .trailer-ok .ensures) (c .before .if1 .left) in omega arith
 
 scan-requires : tie.Need-scan-requires
-scan-requires c κs = let t = trailer-is (c .before .before .before .before .before .args .log .now) (c .before .before .before .before .before .args .number) _ (c .before .before .before .trailer-ok .ensures) (c .before .before .if1 .left) in let g = c .get4 .ensures .0 in omega arith
+scan-requires c κs =
+    let start = c .before .before .before .before .before in
+    let trailer-ok = c .before .before .before .trailer-ok in
+    let t = trailer-is (start .args .log .now) (start .args .number) _ (trailer-ok .ensures) (c .before .before .if1 .left) in let g = c .get4 .ensures .0 in omega arith
 
 returns-2 : tie.Need-returns-2
-returns-2 c = bad-entries _ _ _ (c .before .before .before .before .before .before .trailer-ok .ensures) (c .before .before .before .before .before .if1 .left) _ _ _ _ (c .before .before .before .before .get2 .ensures .0) (c .before .before .before .get4 .ensures .0) (c .before .before .scan .ensures) (c .if2 .taken)
+returns-2 c =
+    let trailer-ok = c .before .before .before .before .before .before .trailer-ok in
+    let if1 = c .before .before .before .before .before .if1 in
+    let get2 = c .before .before .before .before .get2 in
+    let get4 = c .before .before .before .get4 in
+    bad-entries _ _ _ (trailer-ok .ensures) (if1 .left) _ _ _ _ (get2 .ensures .0) (get4 .ensures .0) (c .before .before .scan .ensures) (c .if2 .taken)
 
 returns-3 : tie.Need-returns-3
-returns-3 c = no-answer _ _ _ (c .before .before .before .before .before .before .before .trailer-ok .ensures) (c .before .before .before .before .before .before .if1 .left) _ _ _ _ (c .before .before .before .before .before .get2 .ensures .0) (c .before .before .before .before .get4 .ensures .0) (c .before .before .before .scan .ensures) (c .before .if2 .left) (c .if3 .taken)
+returns-3 c =
+    let trailer-ok = c .before .before .before .before .before .before .before .trailer-ok in
+    let if1 = c .before .before .before .before .before .before .if1 in
+    let get2 = c .before .before .before .before .before .get2 in
+    let get4 = c .before .before .before .before .get4 in
+    let scan = c .before .before .before .scan in
+    no-answer _ _ _ (trailer-ok .ensures) (if1 .left) _ _ _ _ (get2 .ensures .0) (get4 .ensures .0) (scan .ensures) (c .before .if2 .left) (c .if3 .taken)
 
 add-t11 : tie.Need-add-t11
 add-t11 c =
-    let t = trailer-is (c .before .before .before .before .before .before .before .before .before .args .log .now) (c .before .before .before .before .before .before .before .before .before .args .number) _ (c .before .before .before .before .before .before .before .trailer-ok .ensures) (c .before .before .before .before .before .before .if1 .left) in
-    let g = c .before .before .before .before .get4 .ensures .0 in
-    let p = place-ends _ _ _ (c .before .before .before .before .before .before .before .trailer-ok .ensures) (c .before .before .before .before .before .before .if1 .left) _ _ _ _ (c .before .before .before .before .before .get2 .ensures .0) (c .before .before .before .before .get4 .ensures .0) (c .before .before .before .scan .ensures) (c .before .if2 .left) (c .if3 .left) in omega arith
+    let start = c .before .before .before .before .before .before .before .before .before in
+    let trailer-ok = c .before .before .before .before .before .before .before .trailer-ok in
+    let if1 = c .before .before .before .before .before .before .if1 in
+    let get2 = c .before .before .before .before .before .get2 in
+    let get4 = c .before .before .before .before .get4 in
+    let scan = c .before .before .before .scan in
+    let t = trailer-is (start .args .log .now) (start .args .number) _ (trailer-ok .ensures) (if1 .left) in
+    let g = get4 .ensures .0 in
+    let p = place-ends _ _ _ (trailer-ok .ensures) (if1 .left) _ _ _ _ (get2 .ensures .0) (get4 .ensures .0) (scan .ensures) (c .before .if2 .left) (c .if3 .left) in omega arith
 
 add-get2 : tie.Need-add-get2
 add-get2 c =
-    let t = trailer-is (c .before .before .before .before .before .before .before .before .before .args .log .now) (c .before .before .before .before .before .before .before .before .before .args .number) _ (c .before .before .before .before .before .before .before .trailer-ok .ensures) (c .before .before .before .before .before .before .if1 .left) in
-    let g = c .before .before .before .before .get4 .ensures .0 in
-    let p = place-ends _ _ _ (c .before .before .before .before .before .before .before .trailer-ok .ensures) (c .before .before .before .before .before .before .if1 .left) _ _ _ _ (c .before .before .before .before .before .get2 .ensures .0) (c .before .before .before .before .get4 .ensures .0) (c .before .before .before .scan .ensures) (c .before .if2 .left) (c .if3 .left) in omega arith
+    let start = c .before .before .before .before .before .before .before .before .before in
+    let trailer-ok = c .before .before .before .before .before .before .before .trailer-ok in
+    let if1 = c .before .before .before .before .before .before .if1 in
+    let get2 = c .before .before .before .before .before .get2 in
+    let get4 = c .before .before .before .before .get4 in
+    let scan = c .before .before .before .scan in
+    let t = trailer-is (start .args .log .now) (start .args .number) _ (trailer-ok .ensures) (if1 .left) in
+    let g = get4 .ensures .0 in
+    let p = place-ends _ _ _ (trailer-ok .ensures) (if1 .left) _ _ _ _ (get2 .ensures .0) (get4 .ensures .0) (scan .ensures) (c .before .if2 .left) (c .if3 .left) in omega arith
 
 get2-requires-2 : tie.Need-get2-requires-2
 get2-requires-2 c κs =
-    let t = trailer-is (c .before .before .before .before .before .before .before .before .before .args .log .now) (c .before .before .before .before .before .before .before .before .before .args .number) _ (c .before .before .before .before .before .before .before .trailer-ok .ensures) (c .before .before .before .before .before .before .if1 .left) in
-    let g = c .before .before .before .before .get4 .ensures .0 in
-    let p = place-ends _ _ _ (c .before .before .before .before .before .before .before .trailer-ok .ensures) (c .before .before .before .before .before .before .if1 .left) _ _ _ _ (c .before .before .before .before .before .get2 .ensures .0) (c .before .before .before .before .get4 .ensures .0) (c .before .before .before .scan .ensures) (c .before .if2 .left) (c .if3 .left) in omega arith
+    let start = c .before .before .before .before .before .before .before .before .before in
+    let trailer-ok = c .before .before .before .before .before .before .before .trailer-ok in
+    let if1 = c .before .before .before .before .before .before .if1 in
+    let get2 = c .before .before .before .before .before .get2 in
+    let get4 = c .before .before .before .before .get4 in
+    let scan = c .before .before .before .scan in
+    let t = trailer-is (start .args .log .now) (start .args .number) _ (trailer-ok .ensures) (if1 .left) in
+    let g = get4 .ensures .0 in
+    let p = place-ends _ _ _ (trailer-ok .ensures) (if1 .left) _ _ _ _ (get2 .ensures .0) (get4 .ensures .0) (scan .ensures) (c .before .if2 .left) (c .if3 .left) in omega arith
 
 returns-4 : tie.Need-returns-4
-returns-4 c = answer-at _ _ _ (c .before .before .before .before .before .before .before .before .trailer-ok .ensures) (c .before .before .before .before .before .before .before .if1 .left) _ _ _ _ (c .before .before .before .before .before .before .get2 .ensures .0) (c .before .before .before .before .before .get4 .ensures .0) (c .before .before .before .before .scan .ensures) (c .before .before .if2 .left) _ (c .before .if3 .left) (c .get22 .ensures .0)
+returns-4 c =
+    let trailer-ok = c .before .before .before .before .before .before .before .before .trailer-ok in
+    let if1 = c .before .before .before .before .before .before .before .if1 in
+    let get2 = c .before .before .before .before .before .before .get2 in
+    let get4 = c .before .before .before .before .before .get4 in
+    let scan = c .before .before .before .before .scan in
+    answer-at _ _ _ (trailer-ok .ensures) (if1 .left) _ _ _ _ (get2 .ensures .0) (get4 .ensures .0) (scan .ensures) (c .before .before .if2 .left) _ (c .before .if3 .left) (c .get22 .ensures .0)
 
 pub find-spec : {M : Type 1} → statement M
 find-spec =

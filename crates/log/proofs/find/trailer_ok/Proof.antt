@@ -1,6 +1,6 @@
 -- Each return by the tests that led to it.
 use borrow.Author.Needs.{needs}
-use Rattle.log.proofs.CheckLaws.{too-short, no-4C, no-4F, many, no-meeting, fuses-decide}
+use Rattle.log.proofs.LogCheckLaws.{too-short, no-4C, no-4F, many, no-meeting, fuses-decide}
 use Rattle.log.proofs.find.trailer_ok.Statement.{statement}
 use Rattle.log.proofs.find.trailer_ok.Tie as tie
 

@@ -3,7 +3,7 @@ use native.Mathlib.Omega.{arith}
 use borrow.Author.Needs.{needs}
 use lib.ListN.{length-set}
 use lib.Seq.{length-sets}
-use Rattle.log.proofs.WriteLaws.{header-put}
+use Rattle.log.proofs.LogWriteLaws.{header-put}
 use Rattle.log.proofs.write.put_header.Statement.{statement}
 use Rattle.log.proofs.write.put_header.Tie as tie
 
@@ -20,7 +20,9 @@ same-length : tie.Need-same-length
 same-length c = rw (c .before .before .put2 .ensures) (simp (length-sets, length-set))
 
 returns : tie.Need-returns
-returns c = header-put (c .before .before .before .before .before .args .log .now) _ (c .before .before .before .before .before .args .at) (c .before .before .before .before .before .args .kind) (c .before .before .before .before .before .args .response) (c .before .before .put2 .ensures)
+returns c =
+    let start = c .before .before .before .before .before in
+    header-put (start .args .log .now) _ (start .args .at) (start .args .kind) (start .args .response) (c .before .before .put2 .ensures)
 
 pub put-header-spec : {M : Type 1} → statement M
 put-header-spec = tie.close (tie.spec slice-write-log add-put2 put2-requires same-length returns)

@@ -3,7 +3,7 @@ use mathlib.Core.Path.{_∙_}
 use native.Mathlib.Omega.{arith}
 use borrow.Author.Needs.{needs}
 use lib.ListN.{length-set}
-use Rattle.log.proofs.WriteLaws.{trailer-put}
+use Rattle.log.proofs.LogWriteLaws.{trailer-put}
 use Rattle.log.proofs.write.put_trailer.Statement.{statement}
 use Rattle.log.proofs.write.put_trailer.Tie as tie
 
@@ -29,10 +29,15 @@ slice-write-log-2 : tie.Need-slice-write-log-2
 slice-write-log-2 c = let g = c .before .before .put2 .kept .0 ∙ c .before .before .before .before .before .before .put4 .kept .0 in simp length-set (omega arith)
 
 same-length : tie.Need-same-length
-same-length c = simp length-set (c .before .before .put2 .kept .0 ∙ c .before .before .before .before .before .before .put4 .kept .0)
+same-length c =
+    let put4 = c .before .before .before .before .before .before .put4 in
+    simp length-set (c .before .before .put2 .kept .0 ∙ put4 .kept .0)
 
 returns : tie.Need-returns
-returns c = trailer-put (c .before .before .before .before .before .before .before .before .before .args .log .now) _ _ (c .before .before .before .before .before .before .before .before .before .args .at) (c .before .before .before .before .before .before .before .before .before .args .offset) (c .before .before .before .before .before .before .before .before .before .args .count) (c .before .before .before .before .before .before .put4 .ensures) (c .before .before .put2 .ensures)
+returns c =
+    let start = c .before .before .before .before .before .before .before .before .before in
+    let put4 = c .before .before .before .before .before .before .put4 in
+    trailer-put (start .args .log .now) _ _ (start .args .at) (start .args .offset) (start .args .count) (put4 .ensures) (c .before .before .put2 .ensures)
 
 pub put-trailer-spec : {M : Type 1} → statement M
 put-trailer-spec =

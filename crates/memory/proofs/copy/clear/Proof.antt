@@ -5,7 +5,7 @@ use lib.ListN.{length, drop}
 use mathlib.Core.List.{_++_}
 use mathlib.Core.Path.{_≡_, refl}
 use Rattle.model.specs.Lists.{tab}
-use Rattle.model.specs.Loops.{tab-start, tab-next, tab-done}
+use Rattle.laws.specs.Loops.{tab-start, tab-next, tab-done}
 use Rattle.memory.proofs.copy.clear.Statement.{statement}
 use Rattle.memory.proofs.copy.clear.Tie as tie
 

@@ -3,9 +3,9 @@ use Prim.Native.Nat.{_+_, _-_, _%_, _≤_}
 use mathlib.Core.Path.{_≡_}
 use borrow.Author.Needs.{needs}
 use lib.ListN.{length, drop}
-use Rattle.memory.specs.Page.{mergedOf}
+use Rattle.memory.specs.ZonePage.{mergedOf}
 use Rattle.model.specs.Lists.{stores}
-use Rattle.model.specs.Loops.{stores-next, stores-done}
+use Rattle.laws.specs.Loops.{stores-next, stores-done}
 use Rattle.memory.proofs.page.store.Statement.{statement}
 use Rattle.memory.proofs.page.store.Tie as tie
 

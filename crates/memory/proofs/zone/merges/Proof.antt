@@ -1,6 +1,6 @@
 -- Each return by its test.
 use borrow.Author.Needs.{needs}
-use Rattle.model.specs.Loops.{tests}
+use Rattle.laws.specs.Loops.{tests}
 use Rattle.memory.proofs.zone.merges.Statement.{statement}
 use Rattle.memory.proofs.zone.merges.Tie as tie
 

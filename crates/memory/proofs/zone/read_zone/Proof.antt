@@ -1,6 +1,6 @@
 -- The rolling read of the model.
 use borrow.Author.Needs.{needs}
-use Rattle.memory.proofs.ZoneLaws.{read-zone}
+use Rattle.memory.proofs.ZoneMemoryLaws.{read-zone}
 use Rattle.access.specs.State.{volatileOf}
 use Rattle.memory.proofs.zone.read_zone.Statement.{statement}
 use Rattle.memory.proofs.zone.read_zone.Tie as tie
@@ -30,7 +30,10 @@ same-length : tie.Need-same-length
 same-length c = search needs
 
 returns : tie.Need-returns
-returns c = read-zone _ (volatileOf (c .before .before .before .before .before .before .before .before .before .before .args .state)) _ (c .before .before .before .before .before .before .before .before .before .before .pre .1) _ _ _ _ (c .before .before .before .before .zone-readable .ensures) (c .before .before .roll .ensures)
+returns c =
+    let start = c .before .before .before .before .before .before .before .before .before .before in
+    let zone-readable = c .before .before .before .before .zone-readable in
+    read-zone _ (volatileOf (start .args .state)) _ (start .pre .1) _ _ _ _ (zone-readable .ensures) (c .before .before .roll .ensures)
 
 pub read-zone-spec : {M : Type 1} → statement M
 read-zone-spec =

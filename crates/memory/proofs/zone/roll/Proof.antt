@@ -18,7 +18,10 @@ same-length : tie.Need-same-length Inv-loop μ-loop
 same-length c = search needs
 
 returns : tie.Need-returns Inv-loop μ-loop
-returns c = not-shown (c .before .before .before .before .before .before .before .args .card .now) (c .before .before .before .before .before .before .before .args .base) (c .before .before .before .before .before .before .before .args .address) (c .before .before .before .before .before .before .before .args .readable) _ _ _ (c .before .before .before .before .if1 .taken) (c .before .before .clear .ensures)
+returns c =
+    let start = c .before .before .before .before .before .before .before in
+    let if1 = c .before .before .before .before .if1 in
+    not-shown (start .args .card .now) (start .args .base) (start .args .address) (start .args .readable) _ _ _ (if1 .taken) (c .before .before .clear .ensures)
 
 loop-holds : tie.Need-loop-holds Inv-loop μ-loop
 loop-holds c = rolling-start _ _ _ _ _ (c .before .before .before .pre .1)
@@ -45,13 +48,20 @@ loop-less : tie.Need-loop-less Inv-loop μ-loop
 loop-less c = search needs
 
 loop-again : tie.Need-loop-again Inv-loop μ-loop
-loop-again c = rolling-next _ _ _ _ _ _ _ _ (c .before .before .before .before .before .before .loop .inv) _ _ (c .before .before .before .before .before .loop-test .taken) (c .before .before .before .before .before .before .before .before .before .before .pre .0) (c .before .before .before .before .least .ensures) (c .before .before .copy .ensures)
+loop-again c =
+    let start = c .before .before .before .before .before .before .before .before .before .before in
+    let the-loop = c .before .before .before .before .before .before .loop in
+    let loop-test = c .before .before .before .before .before .loop-test in
+    let least = c .before .before .before .before .least in
+    rolling-next _ _ _ _ _ _ _ _ (the-loop .inv) _ _ (loop-test .taken) (start .pre .0) (least .ensures) (c .before .before .copy .ensures)
 
 same-length-2 : tie.Need-same-length-2 Inv-loop μ-loop
 same-length-2 c = rolling-long _ _ _ _ _ _ _ _ (c .before .loop .inv)
 
 returns-2 : tie.Need-returns-2 Inv-loop μ-loop
-returns-2 c = rolling-done _ _ _ _ _ _ _ _ (c .before .loop .inv) (c .before .before .before .before .before .args .readable) (search needs) (c .before .before .before .before .before .pre .2) (c .before .before .if1 .left)
+returns-2 c =
+    let start = c .before .before .before .before .before in
+    rolling-done _ _ _ _ _ _ _ _ (c .before .loop .inv) (start .args .readable) (search needs) (start .pre .2) (c .before .before .if1 .left)
 
 pub roll-spec : {M : Type 1} → statement M
 roll-spec =

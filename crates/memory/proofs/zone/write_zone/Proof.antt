@@ -1,7 +1,7 @@
 -- Kept out, or a page stored.
 use mathlib.Core.Path.{refl}
 use borrow.Author.Needs.{needs}
-use Rattle.memory.proofs.ZoneLaws.{write-zone-shut, write-zone-open}
+use Rattle.memory.proofs.ZoneMemoryLaws.{write-zone-shut, write-zone-open}
 use Rattle.memory.proofs.zone.write_zone.Statement.{statement}
 use Rattle.memory.proofs.zone.write_zone.Tie as tie
 
@@ -21,7 +21,9 @@ zone-writable-requires : tie.Need-zone-writable-requires
 zone-writable-requires c κs = search needs
 
 returns : tie.Need-returns
-returns c = write-zone-shut _ _ _ (c .before .before .before .before .before .before .before .pre .1) _ _ (c .before .zone-writable .ensures) (c .if1 .taken)
+returns c =
+    let start = c .before .before .before .before .before .before .before in
+    write-zone-shut _ _ _ (start .pre .1) _ _ (c .before .zone-writable .ensures) (c .if1 .taken)
 
 merges-requires : tie.Need-merges-requires
 merges-requires c κs = search needs
@@ -54,7 +56,12 @@ same-length : tie.Need-same-length
 same-length c = search needs
 
 returns-2 : tie.Need-returns-2
-returns-2 c = write-zone-open _ _ (c .before .before .before .before .before .before .before .before .before .before .before .before .args .address) (c .before .before .before .before .before .before .before .before .before .before .before .before .pre .1) _ _ _ _ _ (c .before .before .before .before .before .before .zone-writable .ensures) (c .before .before .before .before .before .if1 .left) (c .before .before .before .before .merges .ensures) refl (search needs) (c .before .before .before .before .before .before .before .before .before .before .before .before .pre .0) (c .before .before .store .ensures)
+returns-2 c =
+    let start = c .before .before .before .before .before .before .before .before .before .before .before .before in
+    let zone-writable = c .before .before .before .before .before .before .zone-writable in
+    let if1 = c .before .before .before .before .before .if1 in
+    let merges = c .before .before .before .before .merges in
+    write-zone-open _ _ (start .args .address) (start .pre .1) _ _ _ _ _ (zone-writable .ensures) (if1 .left) (merges .ensures) refl (search needs) (start .pre .0) (c .before .before .store .ensures)
 
 pub write-zone-spec : {M : Type 1} → statement M
 write-zone-spec =

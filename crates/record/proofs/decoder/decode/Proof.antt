@@ -2,7 +2,7 @@
 use Prim.Native.Nat.{_<_}
 use native.Mathlib.Omega.{arith}
 use borrow.Author.Needs.{needs}
-use Rattle.model.specs.RecordLaws.{fixed-small, data-small}
+use Rattle.laws.specs.RecordLaws.{fixed-small, data-small}
 use Rattle.record.proofs.DecoderLaws.{no-kind, kind-zero, kind-large, fields-absent, out-of-range, data-absent, all-there}
 use Rattle.record.proofs.decoder.decode.Statement.{statement}
 use Rattle.record.proofs.decoder.decode.Tie as tie
@@ -44,7 +44,11 @@ data-length-requires : tie.Need-data-length-requires
 data-length-requires c κs = search needs
 
 add-end : tie.Need-add-end
-add-end c = let n : c .before .before .before .byte-at3 .result < 256 = search needs in rw (c .before .before .before .before .before .before .fixed-fields .ensures, c .data-length .ensures) (omega (arith, fixed-small (c .before .before .before .before .before .before .before .before .before .byte-at .result), data-small (c .before .before .before .before .before .before .before .before .before .byte-at .result) (c .before .before .before .byte-at3 .result) n))
+add-end c =
+    let byte-at = c .before .before .before .before .before .before .before .before .before .byte-at in
+    let fixed-fields = c .before .before .before .before .before .before .fixed-fields in
+    let byte-at3 = c .before .before .before .byte-at3 in
+    let n : byte-at3 .result < 256 = search needs in rw (fixed-fields .ensures, c .data-length .ensures) (omega (arith, fixed-small (byte-at .result), data-small (byte-at .result) (byte-at3 .result) n))
 
 returns-6 : tie.Need-returns-6
 returns-6 c = search data-absent

@@ -1,7 +1,7 @@
 -- Each arm by its kind.
 use borrow.Author.Needs.{needs}
-use Rattle.model.specs.Loops.{tests}
-use Rattle.record.specs.Record.{recordOf}
+use Rattle.laws.specs.Loops.{tests}
+use Rattle.record.specs.DecodedRecord.{recordOf}
 use Rattle.record.proofs.decoder.made.Statement.{statement}
 use Rattle.record.proofs.decoder.made.Tie as tie
 

@@ -1,5 +1,5 @@
 -- Each return by its test.
-use Rattle.model.specs.Loops.{tests}
+use Rattle.laws.specs.Loops.{tests}
 use Rattle.record.proofs.decoder.read_count.Statement.{statement}
 use Rattle.record.proofs.decoder.read_count.Tie as tie
 

@@ -19,7 +19,9 @@ word-requires : tie.Need-word-requires
 word-requires c κs = search needs
 
 returns : tie.Need-returns
-returns c = (rw (← (add-one (c .before .before .before .before .args .at))) (c .word .ensures .0 ∙ (omega arith)), c .word .ensures .1)
+returns c =
+    let start = c .before .before .before .before in
+    (rw (← (add-one (start .args .at))) (c .word .ensures .0 ∙ (omega arith)), c .word .ensures .1)
 
 pub get2-spec : {M : Type 1} → statement M
 get2-spec =

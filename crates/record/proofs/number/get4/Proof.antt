@@ -2,7 +2,7 @@
 use Prim.Native.Nat.{_+_, _*_}
 use mathlib.Core.Path.{_∙_, sym}
 use borrow.Author.Needs.{needs}
-use Rattle.model.specs.Numbers.{number-four}
+use Rattle.laws.specs.NumberLaws.{number-four}
 use Rattle.record.proofs.number.get4.Statement.{statement}
 use Rattle.record.proofs.number.get4.Tie as tie
 
@@ -22,7 +22,9 @@ add-result : tie.Need-add-result
 add-result c = search needs
 
 returns : tie.Need-returns
-returns c = ((λ i. c .before .get2 .ensures .0 i + 65536 * c .get22 .ensures .0 i) ∙ sym (number-four (c .before .before .before .args .bytes .now) (c .before .before .before .args .at)), search needs)
+returns c =
+    let start = c .before .before .before in
+    ((λ i. c .before .get2 .ensures .0 i + 65536 * c .get22 .ensures .0 i) ∙ sym (number-four (start .args .bytes .now) (start .args .at)), search needs)
 
 pub get4-spec : {M : Type 1} → statement M
 get4-spec =

@@ -5,15 +5,16 @@ use native.Mathlib.Omega.{arith}
 use borrow.Author.Needs.{needs}
 use lib.ListN.{length, drop}
 use Rattle.security.specs.Cryptogram.{renewed}
+use Rattle.model.specs.Sizes.{cardSize}
 use Rattle.model.specs.At88sc1608.{at88sc1608}
 use Rattle.model.specs.Lists.{stores}
-use Rattle.model.specs.Loops.{stores-next, stores-done}
+use Rattle.laws.specs.Loops.{stores-next, stores-done}
 use Rattle.security.proofs.authentication.renew.Statement.{statement}
 use Rattle.security.proofs.authentication.renew.Tie as tie
 
 abbrev Inv-loop : tie.InvT-loop
 Inv-loop card₀ bytes i₀ card i =
-    (i ≤ 8) × (length card ≡ 2177) × (stores (λ n old new. new) (at88sc1608 .cryptogramCell) (drop i bytes) i card ≡ renewed bytes card₀)
+    (i ≤ 8) × (length card ≡ cardSize) × (stores (λ n old new. new) (at88sc1608 .cryptogramCell) (drop i bytes) i card ≡ renewed bytes card₀)
 
 abbrev μ-loop : tie.MeasureT-loop
 μ-loop card₀ bytes i₀ card i = 8 - i
@@ -38,7 +39,8 @@ loop-less c = search needs
 
 loop-again : tie.Need-loop-again Inv-loop μ-loop
 loop-again c =
-    let l : c .before .before .loop .i < length (c .before .before .before .args .bytes .now) = omega arith in
+    let start = c .before .before .before in
+    let l : c .before .before .loop .i < length (start .args .bytes .now) = omega arith in
     let q : 2088 + c .before .before .loop .i ≡ at88sc1608 .cryptogramCell (c .before .before .loop .i) = omega arith in
     search (needs, stores-next)
 

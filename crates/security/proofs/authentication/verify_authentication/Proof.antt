@@ -23,13 +23,20 @@ same-length : tie.Need-same-length
 same-length c = search needs
 
 returns-2 : tie.Need-returns-2
-returns-2 c = judge-accepted _ _ _ _ _ (c .before .before .before .before .before .before .before .is-begun .ensures) _ _ (c .before .before .before .before .before .before .if1 .left) (c .before .before .before .before .before .if2 .taken) (c .before .before .before .renew .ensures) (c .authenticating .ensures)
+returns-2 c =
+    let is-begun = c .before .before .before .before .before .before .before .is-begun in
+    let if1 = c .before .before .before .before .before .before .if1 in
+    let if2 = c .before .before .before .before .before .if2 in
+    let renew = c .before .before .before .renew in
+    judge-accepted _ _ _ _ _ (is-begun .ensures) _ _ (if1 .left) (if2 .taken) (renew .ensures) (c .authenticating .ensures)
 
 authenticating-requires-2 : tie.Need-authenticating-requires-2
 authenticating-requires-2 c κs = search needs
 
 returns-3 : tie.Need-returns-3
-returns-3 c = judge-denied _ _ _ _ _ (c .before .before .before .is-begun .ensures) _ (c .before .before .if1 .left) (c .before .if2 .left) (c .authenticating2 .ensures)
+returns-3 c =
+    let is-begun = c .before .before .before .is-begun in
+    judge-denied _ _ _ _ _ (is-begun .ensures) _ (c .before .before .if1 .left) (c .before .if2 .left) (c .authenticating2 .ensures)
 
 pub verify-authentication-spec : {M : Type 1} → statement M
 verify-authentication-spec =

@@ -1,7 +1,7 @@
 -- x AND (x - 1) clears the lowest 1 bit of x: computed for every byte.
 use borrow.Author.Needs.{needs}
 use Rattle.model.specs.Bits.{spentCounter}
-use Rattle.security.proofs.ByteLaws.{cleared}
+use Rattle.security.proofs.CounterLaws.{cleared}
 use Rattle.security.proofs.counter.spent.Statement.{statement}
 use Rattle.security.proofs.counter.spent.Tie as tie
 

@@ -1,6 +1,6 @@
 -- Each return by the tests that led to it.
 use Rattle.model.specs.At88sc1608.{blow}
-use Rattle.model.specs.Loops.{tests}
+use Rattle.laws.specs.Loops.{tests}
 use Rattle.security.proofs.fuse.blown.Statement.{statement}
 use Rattle.security.proofs.fuse.blown.Tie as tie
 

@@ -20,7 +20,9 @@ same-length : tie.Need-same-length
 same-length c = search needs
 
 returns-2 : tie.Need-returns-2
-returns-2 c = after-right _ _ _ _ _ (c .before .before .before .counter-at .ensures) (c .before .if1 .left) (c .if2 .taken)
+returns-2 c =
+    let counter-at = c .before .before .before .counter-at in
+    after-right _ _ _ _ _ (counter-at .ensures) (c .before .if1 .left) (c .if2 .taken)
 
 spent-requires : tie.Need-spent-requires
 spent-requires c κs = search needs
@@ -32,7 +34,9 @@ same-length-2 : tie.Need-same-length-2
 same-length-2 c = search needs
 
 returns-3 : tie.Need-returns-3
-returns-3 c = after-wrong _ _ _ _ _ (c .before .before .before .before .counter-at .ensures) _ (c .before .before .if1 .left) (c .before .if2 .left) (c .spent .ensures)
+returns-3 c =
+    let counter-at = c .before .before .before .before .counter-at in
+    after-wrong _ _ _ _ _ (counter-at .ensures) _ (c .before .before .if1 .left) (c .before .if2 .left) (c .spent .ensures)
 
 pub settle-spec : {M : Type 1} → statement M
 settle-spec =

@@ -17,7 +17,10 @@ same-length : tie.Need-same-length
 same-length c = search needs
 
 returns : tie.Need-returns
-returns c = verified _ _ _ _ _ _ _ _ (c .before .before .before .before .before .is-password .ensures) (c .before .before .before .settle .ensures .0) (c .before .before .before .settle .ensures .1) (c .activating .ensures)
+returns c =
+    let is-password = c .before .before .before .before .before .is-password in
+    let settle = c .before .before .before .settle in
+    verified _ _ _ _ _ _ _ _ (is-password .ensures) (settle .ensures .0) (settle .ensures .1) (c .activating .ensures)
 
 pub verify-password-spec : {M : Type 1} → statement M
 verify-password-spec =

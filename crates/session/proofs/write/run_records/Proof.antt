@@ -5,9 +5,9 @@ use borrow.Author.Needs.{needs}
 use Rattle.access.specs.State.{volatileOf}
 use Rattle.command.specs.Alone.{answer-alone}
 use Rattle.model.specs.Reader.{partAt}
-use Rattle.model.specs.ReaderLaws.{next-within}
-use Rattle.record.specs.Record.{decodedOf}
-use Rattle.session.proofs.WriteLaws.{Going, going-start, going-never, going-ready, going-next, going-done}
+use Rattle.laws.specs.ReaderLaws.{next-within}
+use Rattle.record.specs.DecodedRecord.{decodedOf}
+use Rattle.session.proofs.SessionWriteLaws.{Going, going-start, going-never, going-ready, going-next, going-done}
 use Rattle.session.proofs.write.run_records.Statement.{statement}
 use Rattle.session.proofs.write.run_records.Tie as tie
 
@@ -24,7 +24,9 @@ power-up-requires : tie.Need-power-up-requires Inv-loop μ-loop
 power-up-requires c κs = search needs
 
 loop-holds : tie.Need-loop-holds Inv-loop μ-loop
-loop-holds c = going-start _ _ _ _ _ _ (c .power-up .ensures) (c .before .before .before .before .before .pre)
+loop-holds c =
+    let start = c .before .before .before .before .before in
+    going-start _ _ _ _ _ _ (c .power-up .ensures) (start .pre)
 
 next-at-requires : tie.Need-next-at-requires Inv-loop μ-loop
 next-at-requires c κs = search needs
@@ -33,13 +35,25 @@ enum-told : tie.Need-enum-told Inv-loop μ-loop
 enum-told c = search needs
 
 same-length : tie.Need-same-length Inv-loop μ-loop
-same-length c = absurd (going-never _ _ _ _ _ _ _ _ _ _ _ (c .before .before .before .before .loop .inv) (c .before .before .before .loop-test .taken) _ (sym (ap (decodedOf (partAt (c .before .before .before .before .before .before .before .before .before .before .args .session .now) (c .before .before .before .before .loop .at))) (c .enum-told .given .1)) ∙ c .before .before .next-at .ensures))
+same-length c =
+    let start = c .before .before .before .before .before .before .before .before .before .before in
+    let the-loop = c .before .before .before .before .loop in
+    let loop-test = c .before .before .before .loop-test in
+    absurd (going-never _ _ _ _ _ _ _ _ _ _ _ (the-loop .inv) (loop-test .taken) _ (sym (ap (decodedOf (partAt (start .args .session .now) (the-loop .at))) (c .enum-told .given .1)) ∙ c .before .before .next-at .ensures))
 
 same-length-2 : tie.Need-same-length-2 Inv-loop μ-loop
-same-length-2 c = absurd (going-never _ _ _ _ _ _ _ _ _ _ _ (c .before .before .before .before .loop .inv) (c .before .before .before .loop-test .taken) _ (sym (ap (decodedOf (partAt (c .before .before .before .before .before .before .before .before .before .before .args .session .now) (c .before .before .before .before .loop .at))) (c .enum-told .given .1)) ∙ c .before .before .next-at .ensures))
+same-length-2 c =
+    let start = c .before .before .before .before .before .before .before .before .before .before in
+    let the-loop = c .before .before .before .before .loop in
+    let loop-test = c .before .before .before .loop-test in
+    absurd (going-never _ _ _ _ _ _ _ _ _ _ _ (the-loop .inv) (loop-test .taken) _ (sym (ap (decodedOf (partAt (start .args .session .now) (the-loop .at))) (c .enum-told .given .1)) ∙ c .before .before .next-at .ensures))
 
 returns : tie.Need-returns Inv-loop μ-loop
-returns c = absurd (going-never _ _ _ _ _ _ _ _ _ _ _ (c .before .before .before .before .loop .inv) (c .before .before .before .loop-test .taken) _ (sym (ap (decodedOf (partAt (c .before .before .before .before .before .before .before .before .before .before .args .session .now) (c .before .before .before .before .loop .at))) (c .enum-told .given .1)) ∙ c .before .before .next-at .ensures))
+returns c =
+    let start = c .before .before .before .before .before .before .before .before .before .before in
+    let the-loop = c .before .before .before .before .loop in
+    let loop-test = c .before .before .before .loop-test in
+    absurd (going-never _ _ _ _ _ _ _ _ _ _ _ (the-loop .inv) (loop-test .taken) _ (sym (ap (decodedOf (partAt (start .args .session .now) (the-loop .at))) (c .enum-told .given .1)) ∙ c .before .before .next-at .ensures))
 
 enum-known-kind : tie.Need-enum-known-kind Inv-loop μ-loop
 enum-known-kind c = search needs
@@ -54,10 +68,22 @@ part-write-entry-end : tie.Need-part-write-entry-end Inv-loop μ-loop
 part-write-entry-end c = let f = c .before .before .before .before .before .loop .inv .forth in let e = c .before .before .before .before .before .before .before .records-end .ensures in search needs
 
 write-entry-requires : tie.Need-write-entry-requires Inv-loop μ-loop
-write-entry-requires c κs = rw (c .before .before .before .before .before .before .before .before .before .before .records-end .ensures) (going-ready _ _ _ _ _ _ _ _ _ _ _ (c .before .before .before .before .before .before .before .before .loop .inv) (c .before .before .before .before .before .before .before .loop-test .taken) _ _ (sym (ap (decodedOf (partAt (c .before .before .before .before .before .before .before .before .before .before .before .before .before .before .args .session .now) (c .before .before .before .before .before .before .before .before .loop .at))) (c .before .before .before .before .kind .given .1)) ∙ c .before .before .before .before .before .before .next-at .ensures))
+write-entry-requires c κs =
+    let start = c .before .before .before .before .before .before .before .before .before .before .before .before .before .before in
+    let records-end = c .before .before .before .before .before .before .before .before .before .before .records-end in
+    let the-loop = c .before .before .before .before .before .before .before .before .loop in
+    let loop-test = c .before .before .before .before .before .before .before .loop-test in
+    let next-at = c .before .before .before .before .before .before .next-at in
+    let kind = c .before .before .before .before .kind in
+    rw (records-end .ensures) (going-ready _ _ _ _ _ _ _ _ _ _ _ (the-loop .inv) (loop-test .taken) _ _ (sym (ap (decodedOf (partAt (start .args .session .now) (the-loop .at))) (kind .given .1)) ∙ next-at .ensures))
 
 add-at : tie.Need-add-at Inv-loop μ-loop
-add-at c = let w = next-within (c .before .before .before .before .before .before .before .before .before .before .before .before .before .before .before .before .before .before .before .args .session .now) (c .before .before .before .before .before .before .before .before .before .before .before .before .before .loop .at) _ _ (sym (c .before .before .before .before .before .before .before .before .before .before .before .next-at .ensures) ∙ ap (decodedOf (partAt (c .before .before .before .before .before .before .before .before .before .before .before .before .before .before .before .before .before .before .before .args .session .now) (c .before .before .before .before .before .before .before .before .before .before .before .before .before .loop .at))) (c .before .before .before .before .before .before .before .before .before .kind .given .1)) in omega arith
+add-at c =
+    let start = c .before .before .before .before .before .before .before .before .before .before .before .before .before .before .before .before .before .before .before in
+    let the-loop = c .before .before .before .before .before .before .before .before .before .before .before .before .before .loop in
+    let next-at = c .before .before .before .before .before .before .before .before .before .before .before .next-at in
+    let kind = c .before .before .before .before .before .before .before .before .before .kind in
+    let w = next-within (start .args .session .now) (the-loop .at) _ _ (sym (next-at .ensures) ∙ ap (decodedOf (partAt (start .args .session .now) (the-loop .at))) (kind .given .1)) in omega arith
 
 answer-length-requires : tie.Need-answer-length-requires Inv-loop μ-loop
 answer-length-requires c κs = search needs
@@ -69,9 +95,15 @@ add-place : tie.Need-add-place Inv-loop μ-loop
 add-place c = search needs
 
 add-place-2 : tie.Need-add-place-2 Inv-loop μ-loop
-add-place-2 c = let r = going-ready _ _ _ _ _ _ _ _ _ _ _ (c .before .before .before .before .before .before .before .before .before .before .before .before .before .before .loop .inv) (c .before .before .before .before .before .before .before .before .before .before .before .before .before .loop-test .taken) _ _ (sym (ap (decodedOf (partAt (c .before .before .before .before .before .before .before .before .before .before .before .before .before .before .before .before .before .before .before .before .args .session .now) (c .before .before .before .before .before .before .before .before .before .before .before .before .before .before .loop .at))) (c .before .before .before .before .before .before .before .before .before .before .kind .given .1)) ∙ c .before .before .before .before .before .before .before .before .before .before .before .before .next-at .ensures) .room in
-    let a = c .answer-length .ensures ∙ sym (answer-alone (partAt (c .before .before .before .before .before .before .before .before .before .before .before .before .before .before .before .before .before .before .before .before .args .session .now) (c .before .before .before .before .before .before .before .before .before .before .before .before .before .before .loop .at)) (c .before .before .before .before .before .before .before .before .before .before .kind .given .0 .1 .0) (c .before .before .before .before .before .before .before .before .before .before .kind .given .0 .0)) in
-    let l = c .before .before .before .before .before .before .before .before .before .before .before .before .before .before .loop .inv .long in let b = c .before .before .before .before .before .before .before .before .before .before .before .before .before .before .before .before .before .before .before .before .good .1 .1 .1 .1 .0 .0 in omega arith
+add-place-2 c =
+    let start = c .before .before .before .before .before .before .before .before .before .before .before .before .before .before .before .before .before .before .before .before in
+    let the-loop = c .before .before .before .before .before .before .before .before .before .before .before .before .before .before .loop in
+    let loop-test = c .before .before .before .before .before .before .before .before .before .before .before .before .before .loop-test in
+    let next-at = c .before .before .before .before .before .before .before .before .before .before .before .before .next-at in
+    let kind = c .before .before .before .before .before .before .before .before .before .before .kind in
+    let r = going-ready _ _ _ _ _ _ _ _ _ _ _ (the-loop .inv) (loop-test .taken) _ _ (sym (ap (decodedOf (partAt (start .args .session .now) (the-loop .at))) (kind .given .1)) ∙ next-at .ensures) .room in
+    let a = c .answer-length .ensures ∙ sym (answer-alone (partAt (start .args .session .now) (the-loop .at)) (kind .given .0 .1 .0) (kind .given .0 .0)) in
+    let l = the-loop .inv .long in let b = start .good .1 .1 .1 .1 .0 .0 in omega arith
 
 sub-left : tie.Need-sub-left Inv-loop μ-loop
 sub-left c = search needs
@@ -80,11 +112,21 @@ loop-less : tie.Need-loop-less Inv-loop μ-loop
 loop-less c = search needs
 
 loop-again : tie.Need-loop-again Inv-loop μ-loop
-loop-again c = going-next _ _ _ _ _ _ _ _ _ _ _ (c .before .before .before .before .before .before .before .before .before .before .before .before .before .before .loop .inv) (c .before .before .before .before .before .before .before .before .before .before .before .before .before .loop-test .taken) _ _ (sym (ap (decodedOf (partAt (c .before .before .before .before .before .before .before .before .before .before .before .before .before .before .before .before .before .before .before .before .args .session .now) (c .before .before .before .before .before .before .before .before .before .before .before .before .before .before .loop .at))) (c .before .before .before .before .before .before .before .before .before .before .kind .given .1)) ∙ c .before .before .before .before .before .before .before .before .before .before .before .before .next-at .ensures) _ _ _ _
-    (c .answer-length .ensures ∙ sym (answer-alone (partAt (c .before .before .before .before .before .before .before .before .before .before .before .before .before .before .before .before .before .before .before .before .args .session .now) (c .before .before .before .before .before .before .before .before .before .before .before .before .before .before .loop .at)) (c .before .before .before .before .before .before .before .before .before .before .kind .given .0 .1 .0) (c .before .before .before .before .before .before .before .before .before .before .kind .given .0 .0))) (rw (c .before .before .before .before .before .before .before .before .before .before .before .before .before .before .before .before .records-end .ensures) at (c .before .before .before .before .before .write-entry .ensures))
+loop-again c =
+    let start = c .before .before .before .before .before .before .before .before .before .before .before .before .before .before .before .before .before .before .before .before in
+    let records-end = c .before .before .before .before .before .before .before .before .before .before .before .before .before .before .before .before .records-end in
+    let the-loop = c .before .before .before .before .before .before .before .before .before .before .before .before .before .before .loop in
+    let loop-test = c .before .before .before .before .before .before .before .before .before .before .before .before .before .loop-test in
+    let next-at = c .before .before .before .before .before .before .before .before .before .before .before .before .next-at in
+    let kind = c .before .before .before .before .before .before .before .before .before .before .kind in
+    let write-entry = c .before .before .before .before .before .write-entry in
+    going-next _ _ _ _ _ _ _ _ _ _ _ (the-loop .inv) (loop-test .taken) _ _ (sym (ap (decodedOf (partAt (start .args .session .now) (the-loop .at))) (kind .given .1)) ∙ next-at .ensures) _ _ _ _
+    (c .answer-length .ensures ∙ sym (answer-alone (partAt (start .args .session .now) (the-loop .at)) (kind .given .0 .1 .0) (kind .given .0 .0))) (rw (records-end .ensures) at (write-entry .ensures))
 
 same-length-3 : tie.Need-same-length-3 Inv-loop μ-loop
-same-length-3 c = c .before .loop .inv .good .long ∙ sym (c .before .before .before .before .before .before .before .pre .good .long)
+same-length-3 c =
+    let start = c .before .before .before .before .before .before .before in
+    c .before .loop .inv .good .long ∙ sym (start .pre .good .long)
 
 same-length-4 : tie.Need-same-length-4 Inv-loop μ-loop
 same-length-4 c = c .before .loop .inv .long

@@ -2,7 +2,7 @@
 use mathlib.Core.Path.{refl, sym, _∙_}
 use borrow.Author.Needs.{needs}
 use Rattle.command.specs.Alone.{answer-alone, kind-alone}
-use Rattle.session.proofs.WriteLaws.{entry-ready, entry-written}
+use Rattle.session.proofs.SessionWriteLaws.{entry-ready, entry-written}
 use Rattle.session.proofs.write.write_entry.Statement.{statement}
 use Rattle.session.proofs.write.write_entry.Tie as tie
 
@@ -31,7 +31,12 @@ part-carry-out-end : tie.Need-part-carry-out-end
 part-carry-out-end c = search needs
 
 carry-out-requires : tie.Need-carry-out-requires
-carry-out-requires c κs = entry-ready _ _ _ _ _ _ (c .before .before .before .before .before .before .before .before .before .before .before .pre) _ _ _ (c .before .before .before .before .before .before .kind-number .ensures ∙ sym (kind-alone (c .before .before .before .before .before .before .before .before .before .before .before .args .part .now) (c .before .before .before .before .before .before .before .before .before .before .before .args .length) (c .before .before .before .before .before .before .before .before .before .before .before .args .kind))) (c .before .before .before .before .before .answer-length .ensures ∙ sym (answer-alone (c .before .before .before .before .before .before .before .before .before .before .before .args .part .now) (c .before .before .before .before .before .before .before .before .before .before .before .args .length) (c .before .before .before .before .before .before .before .before .before .before .before .args .kind))) (c .before .before .before .before .put-header .ensures) _ _ refl refl
+carry-out-requires c κs =
+    let start = c .before .before .before .before .before .before .before .before .before .before .before in
+    let kind-number = c .before .before .before .before .before .before .kind-number in
+    let answer-length = c .before .before .before .before .before .answer-length in
+    let put-header = c .before .before .before .before .put-header in
+    entry-ready _ _ _ _ _ _ (start .pre) _ _ _ (kind-number .ensures ∙ sym (kind-alone (start .args .part .now) (start .args .length) (start .args .kind))) (answer-length .ensures ∙ sym (answer-alone (start .args .part .now) (start .args .length) (start .args .kind))) (put-header .ensures) _ _ refl refl
 
 same-length : tie.Need-same-length
 same-length c = search needs
@@ -40,7 +45,13 @@ same-length-2 : tie.Need-same-length-2
 same-length-2 c = search needs
 
 returns : tie.Need-returns
-returns c = entry-written _ _ _ _ _ _ (c .before .before .before .before .before .before .before .before .before .before .before .before .before .before .before .before .pre) _ _ _ (c .before .before .before .before .before .before .before .before .before .before .before .kind-number .ensures ∙ sym (kind-alone (c .before .before .before .before .before .before .before .before .before .before .before .before .before .before .before .before .args .part .now) (c .before .before .before .before .before .before .before .before .before .before .before .before .before .before .before .before .args .length) (c .before .before .before .before .before .before .before .before .before .before .before .before .before .before .before .before .args .kind))) (c .before .before .before .before .before .before .before .before .before .before .answer-length .ensures ∙ sym (answer-alone (c .before .before .before .before .before .before .before .before .before .before .before .before .before .before .before .before .args .part .now) (c .before .before .before .before .before .before .before .before .before .before .before .before .before .before .before .before .args .length) (c .before .before .before .before .before .before .before .before .before .before .before .before .before .before .before .before .args .kind))) (c .before .before .before .before .before .before .before .before .before .put-header .ensures) _ _ refl refl _ _ _ (c .before .before .before .before .carry-out .ensures)
+returns c =
+    let start = c .before .before .before .before .before .before .before .before .before .before .before .before .before .before .before .before in
+    let kind-number = c .before .before .before .before .before .before .before .before .before .before .before .kind-number in
+    let answer-length = c .before .before .before .before .before .before .before .before .before .before .answer-length in
+    let put-header = c .before .before .before .before .before .before .before .before .before .put-header in
+    let carry-out = c .before .before .before .before .carry-out in
+    entry-written _ _ _ _ _ _ (start .pre) _ _ _ (kind-number .ensures ∙ sym (kind-alone (start .args .part .now) (start .args .length) (start .args .kind))) (answer-length .ensures ∙ sym (answer-alone (start .args .part .now) (start .args .length) (start .args .kind))) (put-header .ensures) _ _ refl refl _ _ _ (carry-out .ensures)
 
 pub write-entry-spec : {M : Type 1} → statement M
 write-entry-spec =

@@ -2,7 +2,7 @@
 use mathlib.Core.Path.{refl}
 use native.Mathlib.Omega.{arith}
 use borrow.Author.Needs.{needs}
-use Rattle.session.proofs.WriteLaws.{session-long, records-ready, log-written}
+use Rattle.session.proofs.SessionWriteLaws.{session-long, records-ready, log-written}
 use Rattle.session.proofs.write.write_log.Statement.{statement}
 use Rattle.session.proofs.write.write_log.Tie as tie
 
@@ -22,13 +22,20 @@ slice-aggregate-copy : tie.Need-slice-aggregate-copy
 slice-aggregate-copy c = search needs
 
 copy-requires : tie.Need-copy-requires
-copy-requires c κs = let l = session-long _ _ _ (c .before .before .before .before .before .pre) in (omega arith, omega arith)
+copy-requires c κs =
+    let start = c .before .before .before .before .before in
+    let l = session-long _ _ _ (start .pre) in (omega arith, omega arith)
 
 slice-aggregate-run-records : tie.Need-slice-aggregate-run-records
 slice-aggregate-run-records c = search needs
 
 run-records-requires : tie.Need-run-records-requires
-run-records-requires c κs = records-ready _ _ _ (c .before .before .before .before .before .before .before .before .before .pre) _ _ _ _ refl (c .before .before .before .copy .ensures) (c .before .before .before .before .before .before .get4 .ensures .0) (c .before .before .before .before .before .get2 .ensures .0)
+run-records-requires c κs =
+    let start = c .before .before .before .before .before .before .before .before .before in
+    let get4 = c .before .before .before .before .before .before .get4 in
+    let get2 = c .before .before .before .before .before .get2 in
+    let copy = c .before .before .before .copy in
+    records-ready _ _ _ (start .pre) _ _ _ _ refl (copy .ensures) (get4 .ensures .0) (get2 .ensures .0)
 
 slice-aggregate-copy-2 : tie.Need-slice-aggregate-copy-2
 slice-aggregate-copy-2 c = search needs
@@ -46,7 +53,14 @@ same-length : tie.Need-same-length
 same-length c = search needs
 
 returns : tie.Need-returns
-returns c = log-written _ _ _ (c .before .before .before .before .before .before .before .before .before .before .before .before .before .before .before .before .before .before .before .before .before .before .pre) _ _ _ _ refl (c .before .before .before .before .before .before .before .before .before .before .before .before .before .before .before .before .copy .ensures) (c .before .before .before .before .before .before .before .before .before .before .before .before .before .before .before .before .before .before .before .get4 .ensures .0) (c .before .before .before .before .before .before .before .before .before .before .before .before .before .before .before .before .before .before .get2 .ensures .0) _ _ _ _ (c .before .before .before .before .before .before .before .before .before .before .before .before .run-records .ensures) (c .before .before .before .before .before .before .copy2 .ensures) (c .before .before .put-trailer .ensures)
+returns c =
+    let start = c .before .before .before .before .before .before .before .before .before .before .before .before .before .before .before .before .before .before .before .before .before .before in
+    let get4 = c .before .before .before .before .before .before .before .before .before .before .before .before .before .before .before .before .before .before .before .get4 in
+    let get2 = c .before .before .before .before .before .before .before .before .before .before .before .before .before .before .before .before .before .before .get2 in
+    let copy = c .before .before .before .before .before .before .before .before .before .before .before .before .before .before .before .before .copy in
+    let run-records = c .before .before .before .before .before .before .before .before .before .before .before .before .run-records in
+    let copy2 = c .before .before .before .before .before .before .copy2 in
+    log-written _ _ _ (start .pre) _ _ _ _ refl (copy .ensures) (get4 .ensures .0) (get2 .ensures .0) _ _ _ _ (run-records .ensures) (copy2 .ensures) (c .before .before .put-trailer .ensures)
 
 pub write-log-spec : {M : Type 1} → statement M
 write-log-spec =

@@ -4,10 +4,10 @@ use mathlib.Core.List.{List}
 use mathlib.Core.Path.{_≡_, _∙_}
 use native.Mathlib.Omega.{arith}
 use lib.ListN.{length, length-take, length-drop}
 use Rattle.model.specs.Call.{whole}
 use Rattle.model.specs.Command.{Command}
-use Rattle.model.specs.RecordLaws.{decode-within}
+use Rattle.laws.specs.RecordLaws.{decode-within}
 use Rattle.model.specs.Reader.{recordsEnd, partAt, nextOf}
 
 pub part-length : (s : List ℕ) (i : ℕ) → length (partAt s i) ≡ recordsEnd (length s) - i
 part-length s i = simp (length-take, length-drop) (omega arith)

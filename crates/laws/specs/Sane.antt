@@ -9,22 +9,25 @@ use borrow.Author.Tests.{ltb-true, eqb-true, not-false, lt-ltb, eq-eqb}
 use lib.Bits.{bitAnd, and-le-l}
 use lib.Dec.{ltb, eqb}
 use lib.ListN.{length, set, length-set}
-use Rattle.model.specs.Lists.{choice, at, Bytes, at-set-other, at-set-kept, at-set-either, and-left, and-right}
-use Rattle.model.specs.Tables.{passes-at}
+use Rattle.model.specs.Sizes.{cardSize, fuseAt}
+use Rattle.model.specs.Lists.{at, Bytes}
+use Rattle.laws.specs.BoolLaws.{choice, and-left, and-right}
+use Rattle.laws.specs.ListLaws.{at-set-other, at-set-kept, at-set-either}
+use Rattle.laws.specs.Tables.{passes-at}
 use Rattle.model.specs.Bits.{spentCounter}
 use Rattle.model.specs.Volatile.{Volatile}
 use Rattle.model.specs.Command.{Command, select, verifyPassword}
-use Rattle.model.specs.Device.{Device}
+use Rattle.model.specs.Device.{Device, Counter, ofPassword, ofAuthentication, counterPlace}
 use Rattle.model.specs.Call.{Powered, Call}
-use Rattle.model.specs.CallLaws.{clear, list-keeps}
+use Rattle.laws.specs.CallLaws.{clear, list-keeps}
 use Rattle.model.specs.Access.{pgo}
 use Rattle.model.specs.At88sc1608.{at88sc1608, fuses, registerOf, mayWrite, merge, blow}
 use Rattle.model.specs.Apply.{rules, kept}
 use Rattle.model.specs.Apply as any
 use Rattle.model.specs.Record.{decode}
-use Rattle.model.specs.RecordLaws.{Fields, decode-fields}
+use Rattle.laws.specs.RecordLaws.{Fields, decode-fields}
 use Rattle.model.specs.Single.{isFuseByte, stateInRange, checkOf, check, apply, final}
-use Rattle.model.specs.Effects.{Counter, ofPassword, ofAuthentication, counterPlace, carried, Change, writes, fills, spends, renews, blows, changes, Move, stays, powers, resets, selects, opens, closes, begins, grants, denies, moves}
+use Rattle.laws.specs.Effects.{carried, Change, writes, fills, spends, renews, blows, changes, Move, stays, powers, resets, selects, opens, closes, begins, grants, denies, moves}
 
 -- Laws of a device: what it computes of bytes are bytes, and its fuse byte is moved by write fuses alone, from stage to stage.
 pub record Sound (D : Device) : Type 0 where
@@ -133,11 +136,11 @@ blow-stage : (x : ℕ) → isFuseByte x ≡ true → isFuseByte (blow x) ≡ tru
 unfolding blow
 blow-stage x h = choice (λ f. isFuseByte f ≡ true) (eqb x 7) 6 _ refl (choice (λ f. isFuseByte f ≡ true) (eqb x 6) 4 0 refl refl)
 
-pub fuse-shut : (ρ : List ℕ) (s : Volatile) → mayWrite ρ s 2176 ≡ false
+pub fuse-shut : (ρ : List ℕ) (s : Volatile) → mayWrite ρ s fuseAt ≡ false
 unfolding mayWrite
 fuse-shut ρ s = refl
 
-pub fuse-counter : (n : Counter) → 2176 ≡ counterPlace at88sc1608 n → ⊥
+pub fuse-counter : (n : Counter) → fuseAt ≡ counterPlace at88sc1608 n → ⊥
 fuse-counter (ofPassword k) = λ e. omega arith
 fuse-counter ofAuthentication = λ e. omega arith
 
@@ -156,8 +159,8 @@ sound =
 
 -- a card and a state that pass the checks
 pub record Good (c : List ℕ) (s : Volatile) : Type 0 where
-  pub long : length c ≡ 2177
-  pub stage : isFuseByte (at c 2176) ≡ true
+  pub long : length c ≡ cardSize
+  pub stage : isFuseByte (at c fuseAt) ≡ true
   pub range : stateInRange at88sc1608 s ≡ true
 
 pub check-good : (c : List ℕ) (s : Volatile) → Good c s → check c s ≡ 0
@@ -167,8 +170,8 @@ check-good c s g = rw (eq-eqb _ _ (g .long), g .stage, g .range)
 pub good-check : (c : List ℕ) (s : Volatile) → check c s ≡ 0 → Good c s
 unfolding checkOf
 good-check c s e =
-    let p₁ = clear (not (eqb (length c) 2177)) 10 _ e in
-    let p₂ = clear (not (isFuseByte (at c 2176))) 4 _ (p₁ .1) in
+    let p₁ = clear (not (eqb (length c) cardSize)) 10 _ e in
+    let p₂ = clear (not (isFuseByte (at c fuseAt))) 4 _ (p₁ .1) in
     let p₃ = clear (not (stateInRange at88sc1608 s)) 11 0 (p₂ .1) in
     record { long = eqb-true _ _ (not-false _ (p₁ .0)); stage = not-false _ (p₂ .0); range = not-false _ (p₃ .0) }
 

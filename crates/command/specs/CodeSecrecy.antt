@@ -12,12 +12,12 @@ use Rattle.model.specs.Lists.{at}
 use Rattle.model.specs.Volatile as model
 use Rattle.model.specs.Access.{rpe, ate, passwordSet}
 use Rattle.model.specs.At88sc1608.{at88sc1608}
-use Rattle.model.specs.Effects.{Counter, counterPlace}
+use Rattle.model.specs.Device.{Counter, counterPlace}
 use Rattle.model.specs.Record.{decode}
 use Rattle.model.specs.Single.{check, apply, command, replies, final}
 use Rattle.secrecy.specs.Agree.{AgreeOutside}
 use Rattle.secrecy.specs.Secret.{Sealed, register, inZone, inZoneOrPasswords, PresentsNeither, AcceptsNot, Throughout, Indistinguishable}
-use Rattle.secrecy.specs.Demand3 as model-claims
+use Rattle.secrecy.specs.CardSecrecy as model-claims
 use Rattle.access.specs.State.{volatileOf}
 use Rattle.access.specs.declared.volatile.Volatile.{Volatile}
 use Rattle.command.specs.declared.Reply.{Reply}
@@ -56,7 +56,7 @@ given-injective : (g h : Given) → replyOf g ≡ replyOf h → g ≡ h
 given-injective g h e =
     let o = outcome-injective (g .reply .outcome) (h .reply .outcome) (λ i. e i .refusal) in
     let v = volatile-injective (g .reply .state) (h .reply .state) (λ i. e i .state) in
-    λ i. record { reply = record { outcome = o i; length = e i .length; state = v i }; space = e i .space }
+    λ i. record { reply = record { outcome = o i; size = e i .size; state = v i }; space = e i .space }
 
 all-injective : (gs hs : List Given) → map replyOf gs ≡ map replyOf hs → gs ≡ hs
 all-injective [] [] e = refl
@@ -90,7 +90,7 @@ from-model hidden xs b₁ b₂ s gs₁ gs₂ d₁ d₂ e r₁ r₂ w =
       outside = λ i h. rw (f₁, f₂) (w .outside i h);
     }
 
--- the read password, as Demand3 of crate `secrecy` has it, for every two runs of the code from power-up
+-- the read password, as `CardSecrecy` of crate `secrecy` has it, for every two runs of the code from power-up
 pub read-password : (z : ℕ) → z < 8 → (b₁ b₂ : List ℕ) → Sealed b₁ → Sealed b₂ → rpe (register b₁ z) ≡ true
     → AgreeOutside (inZoneOrPasswords z (passwordSet (register b₁ z))) b₁ b₂
     → (xs : List Call) → Throughout (PresentsNeither (passwordSet (register b₁ z)) b₁ b₂) xs b₁

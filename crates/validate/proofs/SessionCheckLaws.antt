@@ -7,32 +7,33 @@ use native.Mathlib.Omega.{arith}
 use borrow.Author.Tests.{lt-ltb, le-ltb, le-leb, lt-leb, eq-eqb, ne-eqb}
 use lib.Dec.{eqb}
 use lib.ListN.{length}
+use Rattle.model.specs.Sizes.{cardSize, fuseAt, trailerSize, leastSession, greatestSession, mostRecords}
 use Rattle.model.specs.Lists.{at}
 use Rattle.model.specs.At88sc1608.{at88sc1608}
 use Rattle.model.specs.Call.{refused, whole}
 use Rattle.model.specs.Command.{Command}
-use Rattle.model.specs.Effects.{answerLength}
+use Rattle.laws.specs.Effects.{answerLength}
 use Rattle.model.specs.Reader.{recordsEnd, nextOf}
 use Rattle.model.specs.Refusal.{sessionLength, sessionTrailer, startOutOfRange, tooManyRecords, fuseByte, bytesLeft}
 use Rattle.model.specs.Session.{startOf, countOf, frame, Read, stopped, all, more, readFrom}
 use Rattle.model.specs.Single.{isFuseByte}
-use Rattle.record.specs.Refusal.{refusalNumber, number-some}
+use Rattle.record.specs.RefusalNumber.{refusalNumber, number-some}
 use Rattle.record.specs.declared.refusal.Refusal.{Refusal}
 use Rattle.validate.specs.Check.{entriesTotal, Sized, unfit, sized, sizedOf, plus, checkOf}
 
 -- ---- the frame
 
 module _ (s : List ℕ) where
-  pub too-short : length s < 2185 → sessionLength ≡ frame s
+  pub too-short : length s < leastSession → sessionLength ≡ frame s
   unfolding frame
   too-short h = rw (lt-leb _ _ h)
 
-  module _ (long : 2185 ≤ length s) where
-    pub too-long : 65536 < length s → sessionLength ≡ frame s
+  module _ (long : leastSession ≤ length s) where
+    pub too-long : greatestSession < length s → sessionLength ≡ frame s
     unfolding frame
     too-long h = rw (le-leb _ _ long, lt-leb _ _ h)
 
-    module _ (short : length s ≤ 65536) where
+    module _ (short : length s ≤ greatestSession) where
       pub no-53 : (at s (length s - 2) ≡ 83 → ⊥) → sessionTrailer ≡ frame s
       unfolding frame
       no-53 n = rw (le-leb _ _ long, le-leb _ _ short, ne-eqb _ _ n)
@@ -43,20 +44,20 @@ module _ (s : List ℕ) where
         no-45 n = rw (le-leb _ _ long, le-leb _ _ short, eq-eqb _ _ first, ne-eqb _ _ n)
 
         module _ (start : ℕ) (second : at s (length s - 1) ≡ 69) (starts : start ≡ startOf s) where
-          pub start-low : start < 2177 → startOutOfRange ≡ frame s
+          pub start-low : start < cardSize → startOutOfRange ≡ frame s
           unfolding frame
           start-low h = rw (le-leb _ _ long, le-leb _ _ short, eq-eqb _ _ first, eq-eqb _ _ second, ← starts, lt-leb _ _ h)
 
-          pub start-high : 2177 ≤ start → length s - 8 < start → startOutOfRange ≡ frame s
+          pub start-high : cardSize ≤ start → length s - trailerSize < start → startOutOfRange ≡ frame s
           unfolding frame
           start-high l h = rw (le-leb _ _ long, le-leb _ _ short, eq-eqb _ _ first, eq-eqb _ _ second, ← starts, le-leb _ _ l, lt-leb _ _ h)
 
-          module _ (count : ℕ) (low : 2177 ≤ start) (high : start ≤ length s - 8) (counts : count ≡ countOf s) where
-            pub many : 4096 < count → tooManyRecords ≡ frame s
+          module _ (count : ℕ) (low : cardSize ≤ start) (high : start ≤ length s - trailerSize) (counts : count ≡ countOf s) where
+            pub many : mostRecords < count → tooManyRecords ≡ frame s
             unfolding frame
             many h = rw (le-leb _ _ long, le-leb _ _ short, eq-eqb _ _ first, eq-eqb _ _ second, ← starts, le-leb _ _ low, le-leb _ _ high, ← counts, lt-ltb _ _ h)
 
-            module _ (ok : Bool) (few : count ≤ 4096) (fuses : ok ≡ isFuseByte (at s 2176)) where
+            module _ (ok : Bool) (few : count ≤ mostRecords) (fuses : ok ≡ isFuseByte (at s fuseAt)) where
               pub bad-fuses : not ok ≡ true → fuseByte ≡ frame s
               unfolding frame
               bad-fuses t = rw (le-leb _ _ long, le-leb _ _ short, eq-eqb _ _ first, eq-eqb _ _ second, ← starts, le-leb _ _ low, le-leb _ _ high, ← counts, le-ltb _ _ few, ← fuses, t)

@@ -7,9 +7,11 @@ use native.Mathlib.Omega.{arith}
 use borrow.Author.Tests.{le-leb, lt-leb, eq-eqb, ne-eqb, eqb-true, eqb-false, not-true, not-false, leb-true}
 use lib.Dec.{leb, eqb}
 use lib.ListN.{length}
-use Rattle.model.specs.Lists.{at, and-left, and-right}
-use Rattle.model.specs.Log.{lengthFits, lengthAt, nextEntry, entryOk, entriesOk, entryPlace, countOf, offsetOf, trailerOk}
-use Rattle.model.specs.Record.{known}
+use Rattle.model.specs.Sizes.{fuseAt, leastLog, mostRecords}
+use Rattle.model.specs.Lists.{at}
+use Rattle.laws.specs.BoolLaws.{and-left, and-right}
+use Rattle.model.specs.Log.{lengthAt, nextEntry, entryOk, entriesOk, entryPlace, countOf, offsetOf, trailerOk}
+use Rattle.model.specs.Record.{known, lengthFits}
 use Rattle.model.specs.Single.{isFuseByte}
 use Rattle.log.specs.Scan.{Scanned}
 
@@ -106,11 +108,11 @@ module _ (l : List ℕ) (count end number i place kept : ℕ) (p : Passing l cou
 -- ---- the trailer
 
 module _ (l : List ℕ) where
-  pub too-short : length l < 2185 → false ≡ trailerOk l
+  pub too-short : length l < leastLog → false ≡ trailerOk l
   unfolding trailerOk
   too-short h = rw (lt-leb _ _ h)
 
-  module _ (long : 2185 ≤ length l) where
+  module _ (long : leastLog ≤ length l) where
     pub no-4C : (at l (length l - 2) ≡ 76 → ⊥) → false ≡ trailerOk l
     unfolding trailerOk
     no-4C n = rw (le-leb _ _ long, ne-eqb _ _ n)
@@ -121,15 +123,15 @@ module _ (l : List ℕ) where
       no-4F n = rw (le-leb _ _ long, eq-eqb _ _ first, ne-eqb _ _ n)
 
       module _ (count : ℕ) (second : at l (length l - 1) ≡ 79) (counted : count ≡ countOf l) where
-        pub many : 4096 < count → false ≡ trailerOk l
+        pub many : mostRecords < count → false ≡ trailerOk l
         unfolding trailerOk
         many h = rw (le-leb _ _ long, eq-eqb _ _ first, eq-eqb _ _ second, ← counted, lt-leb _ _ h)
 
-        module _ (offset : ℕ) (few : count ≤ 4096) (points : offset ≡ offsetOf l) where
-          pub no-meeting : (offset + 2185 ≡ length l → ⊥) → false ≡ trailerOk l
+        module _ (offset : ℕ) (few : count ≤ mostRecords) (points : offset ≡ offsetOf l) where
+          pub no-meeting : (offset + leastLog ≡ length l → ⊥) → false ≡ trailerOk l
           unfolding trailerOk
           no-meeting n = rw (le-leb _ _ long, eq-eqb _ _ first, eq-eqb _ _ second, ← counted, le-leb _ _ few, ← points, ne-eqb _ _ n)
 
-          pub fuses-decide : (ok : Bool) → offset + 2185 ≡ length l → ok ≡ isFuseByte (at l (offset + 2176)) → ok ≡ trailerOk l
+          pub fuses-decide : (ok : Bool) → offset + leastLog ≡ length l → ok ≡ isFuseByte (at l (offset + fuseAt)) → ok ≡ trailerOk l
           unfolding trailerOk
           fuses-decide ok e q = rw (le-leb _ _ long, eq-eqb _ _ first, eq-eqb _ _ second, ← counted, le-leb _ _ few, ← points, eq-eqb _ _ e) q

@@ -7,7 +7,7 @@ use native.Mathlib.Nat.{not-suc-le-zero}
 use native.Mathlib.Omega.{arith}
 use borrow.Author.Tests.{eqb-true, eqb-false}
 use lib.Dec.{eqb}
-use Rattle.model.specs.Lists.{and-left, and-right}
+use Rattle.laws.specs.BoolLaws.{and-left, and-right}
 
 -- the test passes at 0, .., n - 1
 abbrev pub everyBelow : (ℕ → Bool) → ℕ → Bool

@@ -9,7 +9,7 @@ use Rattle.model.specs.Lists.{Bytes}
 use Rattle.model.specs.Command.{Command}
 use Rattle.model.specs.Log.{LaidOut}
 use Rattle.model.specs.Session.{entriesOf, endOf, initial, logOf, Ran, run}
-use Rattle.record.specs.Refusal.{refusalNumber, number-some}
+use Rattle.record.specs.RefusalNumber.{refusalNumber, number-some}
 use Rattle.record.specs.declared.refusal.Refusal.{Refusal}
 use Rattle.properties.specs.Written.{log-length, entries-small}
 use Rattle.properties.specs.Accepted.{Accepts, accepted-run, accepting, run-accepted}
@@ -23,12 +23,12 @@ use Rattle.listing.specs.ListingLaws.{log-listed, listing-length}
 module _ (s log : List ℕ) (r : Ran) (ran : r ≡ run s log) where
   -- the text that was put is the listing
   pub list-put : (text t text′ : List ℕ) (n m : ℕ) → t ≡ listing s log → Put text 0 t text′ n → m ≡ min n (length text)
-      → _≡_ {A = Listed} (record { length = m; log = r .space; text = text′ }) (listIn s log text)
+      → _≡_ {A = Listed} (record { size = m; log = r .space; text = text′ }) (listIn s log text)
   list-put text t text′ n m e p q =
       let a : n ≡ length t = p .past ∙ (omega arith) in
       let b : m ≡ min (length (listing s log)) (length text) = q ∙ ap (λ (x : ℕ). min x (length text)) (a ∙ ap length e) in
       let c : text′ ≡ listIn s log text .text = rw e at (p .bytes) in
-      λ i. record { length = b i; log = ran i .space; text = c i }
+      λ i. record { size = b i; log = ran i .space; text = c i }
 
   pub refused-listing : (why : Refusal) → r .refusal ≡ refusalNumber why → refusedLine (refusalNumber why) ≡ listing s log
   unfolding listing
@@ -50,17 +50,17 @@ module _ (s log : List ℕ) (r : Ran) (ran : r ≡ run s log) where
     laid : LaidOut (entriesOf ks (initial s)) (endOf ks (initial s) .card) (logOf s ks)
     laid = laid-out s log ks bytes (accepts .1)
 
-    pub within : r .length ≤ length (r .space)
+    pub within : r .size ≤ length (r .space)
     within =
         let a = length-append (logOf s ks) (drop (length (logOf s ks)) log) in
-        let b = ap (λ (x : Ran). x .length) whole in
+        let b = ap (λ (x : Ran). x .size) whole in
         let c = ap (λ (x : Ran). length (x .space)) whole in
         omega arith
 
-    front : take (r .length) (r .space) ≡ logOf s ks
-    front = ap (λ (x : Ran). take (x .length) (x .space)) whole ∙ (take-append-seam (logOf s ks) (drop (length (logOf s ks)) log))
+    front : take (r .size) (r .space) ≡ logOf s ks
+    front = ap (λ (x : Ran). take (x .size) (x .space)) whole ∙ (take-append-seam (logOf s ks) (drop (length (logOf s ks)) log))
 
-    pub log-ready : LogReady (take (r .length) (r .space))
+    pub log-ready : LogReady (take (r .size) (r .space))
     log-ready =
         rw front
         (record {
@@ -73,7 +73,7 @@ module _ (s log : List ℕ) (r : Ran) (ran : r ≡ run s log) where
               omega arith;
         })
 
-    pub accepted-listing : logLines (take (r .length) (r .space)) ≡ listing s log
+    pub accepted-listing : logLines (take (r .size) (r .space)) ≡ listing s log
     unfolding listing
     accepted-listing =
         let f : run s log .refusal ≡ 0 = sym (ap (λ (x : Ran). x .refusal) ran) ∙ zero in

@@ -6,25 +6,26 @@ use mathlib.Core.List.{List}
 use mathlib.Core.Path.{_≡_, refl}
 use borrow.Author.Tests.{eq-eqb}
 use lib.ListN.{length}
+use Rattle.model.specs.Sizes.{cardSize, fuseAt}
 use Rattle.model.specs.Lists.{at}
 use Rattle.model.specs.Call.{Call, Decoded, refused, whole, calling, refusing}
 use Rattle.model.specs.Call as calls
-use Rattle.model.specs.CallLaws.{admitted}
+use Rattle.laws.specs.CallLaws.{admitted}
 use Rattle.model.specs.Command.{Command}
 use Rattle.model.specs.Record.{decode}
-use Rattle.model.specs.RecordLaws.{decode-fields}
+use Rattle.laws.specs.RecordLaws.{decode-fields}
 use Rattle.model.specs.Refusal.{stateOutOfRange}
-use Rattle.model.specs.Sane.{good-check, good-after}
+use Rattle.laws.specs.Sane.{good-check, good-after}
 use Rattle.model.specs.Single.{isFuseByte, checkOf, check, apply, command}
 use Rattle.exports.specs.Exports.{exportedCommand}
-use Rattle.exports.specs.State.{isState, stateOf, stateAfter}
+use Rattle.exports.specs.StateBytes.{isState, stateOf, stateAfter}
 use Rattle.exports.specs.StateLaws.{state-read, state-range}
 
 -- 12 at its place: where neither 11 nor 5 applies, and whatever the record and the response space are
-pub unread-refused : (c b : List ℕ) (x : Call) → length c ≡ 2177 → isFuseByte (at c 2176) ≡ true → isState b ≡ false
+pub unread-refused : (c b : List ℕ) (x : Call) → length c ≡ cardSize → isFuseByte (at c fuseAt) ≡ true → isState b ≡ false
     → command c (stateOf b) x ≡ record { card = c; reply = refusing stateOutOfRange (stateOf b) (x .space) }
 unfolding checkOf calls.admission calls.command
-unread-refused c b x l f e = rw (eq-eqb (length c) 2177 l, f, state-range b, e)
+unread-refused c b x l f e = rw (eq-eqb (length c) cardSize l, f, state-range b, e)
 
 -- the bytes at exit stand for the state after the call
 pub state-told : (c b sent space : List ℕ) → stateOf (exportedCommand c b sent space .state) ≡ command c (stateOf b) (calling sent space) .reply .state

@@ -6,11 +6,12 @@ use mathlib.Core.List.{List, [], _∷_}
 use mathlib.Core.Path.{_≡_, refl}
 use lib.Dec.{eqb}
 use lib.ListN.{length, set}
-use Rattle.model.specs.Lists.{at, sameList, stores, length-tab}
+use Rattle.model.specs.Lists.{at, sameList, stores}
+use Rattle.laws.specs.ListLaws.{length-tab}
 use Rattle.model.specs.Volatile.{Volatile, none, selector, idle, begun, granted, powerUp, isBegun, selecting, activating, authenticating}
 use Rattle.model.specs.Command.{Command, powerCycle, reset, select, readZone, writeZone, readConfiguration, writeConfiguration, readFuses, writeFuses, verifyPassword, beginAuthentication, verifyAuthentication}
-use Rattle.model.specs.Device.{Device}
-use Rattle.model.specs.Apply.{fullCounter, rules, kept, password, presented, started, judged, apply}
+use Rattle.model.specs.Device.{Device, Counter, ofPassword, ofAuthentication, counterPlace}
+use Rattle.model.specs.Apply.{fullCounter, attemptOf, judgementOf, rules, kept, password, presented, started, judged, apply}
 
 -- the bytes that a command carries
 abbrev pub carried : Command → List ℕ
@@ -41,15 +42,6 @@ answerLength D writeFuses = 0
 answerLength D (verifyPassword k xs) = 0
 answerLength D beginAuthentication = 0
 answerLength D (verifyAuthentication v xs) = 0
-
--- the attempts counters: that of a selector's password, and that of authentication
-pub data Counter : Type 0 where
-  ofPassword : ℕ → Counter
-  ofAuthentication : Counter
-
-abbrev pub counterPlace : Device → Counter → ℕ
-counterPlace D (ofPassword k) = D .counterAt k
-counterPlace D ofAuthentication = D .attemptsAt
 
 -- Why place i of a card d comes to hold v: a write of the j-th byte carried, judged by the rule bytes ρ and the state s; a
 -- counter filled or spent; a byte of the cryptogram replaced; a fuse blown.
@@ -118,7 +110,7 @@ module _ (D : Device) where
         go false = p
     changes (verifyPassword k xs) h p = go (eqb (at c (D .counterAt k)) 0) (sameList xs (password D c k))
       where
-        go : (l r : Bool) → Inv (presented D l r c s k .card)
+        go : (l r : Bool) → Inv (presented D (attemptOf l r) c s k .card)
         go true r = p
         go false true = h c _ _ p (fills (ofPassword k))
         go false false = h c _ _ p (spends (ofPassword k))
@@ -129,7 +121,7 @@ module _ (D : Device) where
         go false = h c _ _ p (spends ofAuthentication)
     changes (verifyAuthentication v xs) h p = go (isBegun (s .authentication)) v
       where
-        go : (b v : Bool) → Inv (judged D b v c s xs .card)
+        go : (b v : Bool) → Inv (judged D (judgementOf b v) c s xs .card)
         go false v = p
         go true true = h _ _ _ (stores-keep Inv (λ i old new. new) (D .cryptogramCell) xs (λ d k j q. h d _ _ q (renews k j)) 0 c p) (fills ofAuthentication)
         go true false = p
@@ -147,7 +139,7 @@ module _ (D : Device) where
   moves c s writeFuses = stays
   moves c s (verifyPassword k xs) = go (eqb (at c (D .counterAt k)) 0) (sameList xs (password D c k)) refl
     where
-      go : (l r : Bool) → sameList xs (password D c k) ≡ r → Move D c s (verifyPassword k xs) (presented D l r c s k .state)
+      go : (l r : Bool) → sameList xs (password D c k) ≡ r → Move D c s (verifyPassword k xs) (presented D (attemptOf l r) c s k .state)
       go true r e = stays
       go false true e = opens e
       go false false e = closes
@@ -158,7 +150,7 @@ module _ (D : Device) where
       go false = begins
   moves c s (verifyAuthentication v xs) = go (isBegun (s .authentication)) v refl
     where
-      go : (b v : Bool) → isBegun (s .authentication) ≡ b → Move D c s (verifyAuthentication v xs) (judged D b v c s xs .state)
+      go : (b v : Bool) → isBegun (s .authentication) ≡ b → Move D c s (verifyAuthentication v xs) (judged D (judgementOf b v) c s xs .state)
       go false v e = stays
       go true true e = grants e
       go true false e = denies

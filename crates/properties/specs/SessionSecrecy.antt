@@ -9,6 +9,7 @@ use borrow.Author.Tests.{ltb-true, ltb-false, leb-true, leb-false, le-leb, eqb-t
 use lib.Dec.{ltb, leb, eqb}
 use lib.ListN.{length, drop, length-append, length-take, List·getD-append, List·getD-eq-default}
 use lib.Seq.{getD-append-add, length-take-le, getD-take}
+use Rattle.model.specs.Sizes.{cardSize, fuseAt, leastLog}
 use Rattle.model.specs.Lists.{at}
 use Rattle.model.specs.Command.{Command}
 use Rattle.model.specs.Access.{rpe, ate, passwordSet}
@@ -22,7 +23,7 @@ use Rattle.secrecy.specs.Agree.{AgreeOutside}
 use Rattle.secrecy.specs.Secret.{Sealed, register, inZone, inZoneOrPasswords, PresentsNeither, AcceptsNot, Throughout, Indistinguishable}
 use Rattle.secrecy.specs.ReadPassword as read
 use Rattle.secrecy.specs.Authentication as authentication
-use Rattle.secrecy.specs.Demand3 as calls
+use Rattle.secrecy.specs.CardSecrecy as calls
 use Rattle.properties.specs.SessionLaws.{Every, end-length, entries-long}
 use Rattle.properties.specs.Accepted.{Accepts, framed-well, card-good, accepting}
 use Rattle.properties.specs.AsCalls.{callsFrom, entriesFrom, Same, as-calls}
@@ -32,13 +33,13 @@ use Rattle.properties.specs.Alike.{frame-same, read-same, calls-same, st
 
 -- the places of a log of n bytes that are hidden places of its final card; none where there is no log
 abbrev pub inFinalCard : (ℕ → Bool) → ℕ → ℕ → Bool
-inFinalCard hidden n i = leb 2185 n && (leb (n - 2185) i && hidden (i - (n - 2185)))
+inFinalCard hidden n i = leb leastLog n && (leb (n - leastLog) i && hidden (i - (n - leastLog)))
 
 -- two runs with equally filled log space
 pub record RunAlike (hidden : ℕ → Bool) (r₁ r₂ : Ran) : Type 0 where
   pub refusal : r₁ .refusal ≡ r₂ .refusal
-  pub length : r₁ .length ≡ r₂ .length
-  pub outside : AgreeOutside (inFinalCard hidden (r₁ .length)) (r₁ .space) (r₂ .space)
+  pub size : r₁ .size ≡ r₂ .size
+  pub outside : AgreeOutside (inFinalCard hidden (r₁ .size)) (r₁ .space) (r₂ .space)
 
 -- every record that a session runs meets a condition
 abbrev pub EveryRecord : (Command → Type 0) → List ℕ → List ℕ → Type 0
@@ -86,13 +87,13 @@ agree-self : (hidden : ℕ → Bool) (l : List ℕ) → AgreeOutside hidden l l
 agree-self hidden l = record { long = refl; same = λ i h. refl }
 
 rejected-alike : (hidden : ℕ → Bool) (n : ℕ) (space : List ℕ) → RunAlike hidden (rejected n space) (rejected n space)
-rejected-alike hidden n space = record { refusal = refl; length = refl; outside = agree-self _ space }
+rejected-alike hidden n space = record { refusal = refl; size = refl; outside = agree-self _ space }
 
-places : (hidden : ℕ → Bool) (f n i : ℕ) → n ≡ f + 2185 → inFinalCard hidden n i ≡ (leb f i && hidden (i - f))
-places hidden f n i e = let q : n - 2185 ≡ f = omega arith in rw (q, le-leb 2185 n (omega arith))
+places : (hidden : ℕ → Bool) (f n i : ℕ) → n ≡ f + leastLog → inFinalCard hidden n i ≡ (leb f i && hidden (i - f))
+places hidden f n i e = let q : n - leastLog ≡ f = omega arith in rw (q, le-leb leastLog n (omega arith))
 
 -- equal entries around cards that agree
-accepted-alike : (hidden : ℕ → Bool) (es₁ es₂ : List Entry) (c₁ c₂ space : List ℕ) → es₁ ≡ es₂ → length c₁ ≡ 2177 → AgreeOutside hidden c₁ c₂
+accepted-alike : (hidden : ℕ → Bool) (es₁ es₂ : List Entry) (c₁ c₂ space : List ℕ) → es₁ ≡ es₂ → length c₁ ≡ cardSize → AgreeOutside hidden c₁ c₂
     → RunAlike hidden (accepting (logBytes es₁ c₁) space) (accepting (logBytes es₂ c₂) space)
 accepted-alike hidden es₁ es₂ c₁ c₂ space e l a = subst (λ (es : List Entry). RunAlike hidden (accepting (logBytes es₁ c₁) space) (accepting (logBytes es c₂) space)) e same
   where
@@ -124,7 +125,7 @@ accepted-alike hidden es₁ es₂ c₁ c₂ space e l a = subst (λ (es : List E
         let p₂ = joined c₂ lengths in
         record {
           refusal = refl;
-          length = lengths;
+          size = lengths;
           outside = record {
             long = ap length p₁ ∙ within .long ∙ sym (ap length p₂);
             same = λ i h. ap (λ (x : List ℕ). at x i) p₁
@@ -133,12 +134,12 @@ accepted-alike hidden es₁ es₂ c₁ c₂ space e l a = subst (λ (es : List E
           };
         }
 
-module _ (hidden : ℕ → Bool) (in-card : (i : ℕ) → 2176 ≤ i → hidden i ≡ false) (s₁ s₂ : List ℕ) (agree : AgreeOutside hidden s₁ s₂)
+module _ (hidden : ℕ → Bool) (in-card : (i : ℕ) → fuseAt ≤ i → hidden i ≡ false) (s₁ s₂ : List ℕ) (agree : AgreeOutside hidden s₁ s₂)
     (Ok : Command → Type 0) (claim : (xs : List Call) → Throughout Ok xs (cardOf s₁) → Indistinguishable hidden xs (cardOf s₁) (cardOf s₂))
     (space : List ℕ) (every : EveryRecord Ok s₁ space) where
   -- both sessions run the same commands
   module _ (ks : List Command) (accepts : Accepts s₁ space ks) (reads₂ : readFrom (countOf s₂) s₂ (startOf s₂) ≡ all ks (recordsEnd (length s₁))) where
-    long : 2185 ≤ length s₁
+    long : leastLog ≤ length s₁
     long = framed-well s₁ (accepts .frames) .long
 
     abbrev xs₁ : List Call
@@ -168,13 +169,13 @@ module _ (hidden : ℕ → Bool) (in-card : (i : ℕ) → 2176 ≤ i → hidden 
         sym (same₁ .entries) ∙ ap (entriesFrom ks) (indistinguishable .observed)
         ∙ ap (λ (xs : List Call). entriesFrom ks (replies xs (initial s₂))) xs-same ∙ same₂ .entries
 
-    card-long : length (endOf ks (initial s₁) .card) ≡ 2177
-    card-long = end-length ks (initial s₁) ∙ length-take-le 2177 s₁ (let l = long in omega arith)
+    card-long : length (endOf ks (initial s₁) .card) ≡ cardSize
+    card-long = end-length ks (initial s₁) ∙ length-take-le cardSize s₁ (let l = long in omega arith)
 
     cards-agree : AgreeOutside hidden (endOf ks (initial s₁) .card) (endOf ks (initial s₂) .card)
     cards-agree =
         record {
-          long = card-long ∙ sym (end-length ks (initial s₂) ∙ length-take-le 2177 s₂ (let l = long in let w = agree .long in omega arith));
+          long = card-long ∙ sym (end-length ks (initial s₂) ∙ length-take-le cardSize s₂ (let l = long in let w = agree .long in omega arith));
           same = λ i h. (λ t. at (sym (same₁ .ends) t .card) i) ∙ indistinguishable .outside i h
               ∙ (λ t. at (final (xs-same t) (initial s₂) .card) i) ∙ (λ t. at (same₂ .ends t .card) i);
         }
@@ -192,7 +193,7 @@ module _ (hidden : ℕ → Bool) (in-card : (i : ℕ) → 2176 ≤ i → hidden 
       simp (length-append, entries-long ks (initial s₁) (initial s₂), c)
     where
       cards-long : length (cardOf s₁) ≡ length (cardOf s₂)
-      cards-long = length-take 2177 s₁ ∙ ap (min 2177) (agree .long) ∙ sym (length-take 2177 s₂)
+      cards-long = length-take cardSize s₁ ∙ ap (min cardSize) (agree .long) ∙ sym (length-take cardSize s₂)
 
   on-room : (ks : List Command) (t : Bool) → frame s₁ ≡ 0 → readFrom (countOf s₁) s₁ (startOf s₁) ≡ all ks (recordsEnd (length s₁))
       → readFrom (countOf s₂) s₂ (startOf s₂) ≡ all ks (recordsEnd (length s₁)) → ltb (length space) (length (logOf s₁ ks)) ≡ t
@@ -219,7 +220,7 @@ module _ (hidden : ℕ → Bool) (in-card : (i : ℕ) → 2176 ≤ i → hidden 
   on-frame : (n : ℕ) → frame s₁ ≡ n → RunAlike hidden (framed s₁ space n) (framed s₂ space n)
   on-frame zero f =
       let w = framed-well s₁ f in
-      let l : 2185 ≤ length s₁ = w .long in
+      let l : leastLog ≤ length s₁ = w .long in
       let low = w .low in
       let q : readFrom (countOf s₁) s₁ (startOf s₁) ≡ readFrom (countOf s₂) s₂ (startOf s₂) =
       read-same hidden in-card s₁ s₂ agree (countOf s₁) (startOf s₁) (omega arith)
@@ -238,18 +239,18 @@ module _ (hidden : ℕ → Bool) (in-card : (i : ℕ) → 2176 ≤ i → hidden 
 start-agree : (hidden : ℕ → Bool) (s₁ s₂ : List ℕ) → AgreeOutside hidden s₁ s₂ → AgreeOutside hidden (cardOf s₁) (cardOf s₂)
 start-agree hidden s₁ s₂ a =
     record {
-      long = length-take 2177 s₁ ∙ ap (min 2177) (a .long) ∙ sym (length-take 2177 s₂);
-      same = λ i h. at-card s₁ i ∙ ap (λ (n : ℕ). cond (ltb i 2177) n 0) (a .same i h) ∙ sym (at-card s₂ i);
+      long = length-take cardSize s₁ ∙ ap (min cardSize) (a .long) ∙ sym (length-take cardSize s₂);
+      same = λ i h. at-card s₁ i ∙ ap (λ (n : ℕ). cond (ltb i cardSize) n 0) (a .same i h) ∙ sym (at-card s₂ i);
     }
   where
-    at-card : (s : List ℕ) (i : ℕ) → at (cardOf s) i ≡ cond (ltb i 2177) (at s i) 0
-    at-card s i = go (ltb i 2177) refl
+    at-card : (s : List ℕ) (i : ℕ) → at (cardOf s) i ≡ cond (ltb i cardSize) (at s i) 0
+    at-card s i = go (ltb i cardSize) refl
       where
-        go : (t : Bool) → ltb i 2177 ≡ t → at (cardOf s) i ≡ cond t (at s i) 0
-        go true e = getD-take 2177 s i 0 (ltb-true _ _ e)
+        go : (t : Bool) → ltb i cardSize ≡ t → at (cardOf s) i ≡ cond t (at s i) 0
+        go true e = getD-take cardSize s i 0 (ltb-true _ _ e)
         go false e =
-            let l : 2177 ≤ i = ltb-false _ _ e in
-            let w = length-take 2177 s in
+            let l : cardSize ≤ i = ltb-false _ _ e in
+            let w = length-take cardSize s in
             List·getD-eq-default (cardOf s) 0 (omega arith)
 
 -- The read password.

@@ -9,12 +9,13 @@ use borrow.Author.Tests.{ltb-false, leb-true, eqb-false, not-true, not-false, ne
 use lib.Dec.{ltb, leb, eqb}
 use lib.ListN.{length, take, drop, length-take, length-drop}
 use lib.Seq.{length-take-le, getD-take, take-add, drop-at, take-all}
-use Rattle.model.specs.Lists.{at, choice, and-left, and-right}
-use Rattle.model.specs.Tables.{each}
+use Rattle.model.specs.Lists.{at}
+use Rattle.laws.specs.BoolLaws.{choice, and-left, and-right}
+use Rattle.laws.specs.KindLaws.{each-kind, each-row}
 use Rattle.model.specs.Call.{whole}
-use Rattle.model.specs.CallLaws.{past}
+use Rattle.laws.specs.CallLaws.{past}
 use Rattle.model.specs.Command.{Command, powerCycle, reset, select, readZone, writeZone, readConfiguration, writeConfiguration, readFuses, writeFuses, verifyPassword, beginAuthentication, verifyAuthentication}
-use Rattle.model.specs.Record.{known, fixedFields, inRange, dataLength, made, dataAt, recordLength, decode}
+use Rattle.model.specs.Record.{Kind, kinds, known, fixedFields, inRange, dataLength, made, dataAt, recordLength, decode}
 
 -- the data of a record
 abbrev pub dataOf : List ℕ → List ℕ
@@ -26,7 +27,7 @@ pub record Accepted (part : List ℕ) (k : Command) (n : ℕ) : Type 0 where
   pub fields : inRange (at part 0) (at part 1) (at part 2) ≡ true
   pub within : recordLength part ≤ length part
   pub command : made (at part 0) (at part 1) (at part 2) (dataOf part) ≡ k
-  pub length : recordLength part ≡ n
+  pub size : recordLength part ≡ n
 
 pub accepted : (part : List ℕ) (k : Command) (n : ℕ) → decode part ≡ whole k n → Accepted part k n
 unfolding decode
@@ -42,7 +43,7 @@ accepted part k n e =
       fields = not-false _ (p₄ .0);
       within = ltb-false (length part) (recordLength part) (p₅ .0);
       command = cc;
-      length = cc;
+      size = cc;
     }
 
 -- the length of an accepted record lies within the part, and is not 0
@@ -68,21 +69,13 @@ Fields (verifyPassword k xs) = (k < 16) × (length xs ≡ 3)
 Fields beginAuthentication = Unit {0}
 Fields (verifyAuthentication v xs) = length xs ≡ 8
 
--- what holds at each of the twelve kinds holds at every known kind
-pub each-kind : (P : ℕ → Type 0) → P 1 → P 2 → P 3 → P 4 → P 5 → P 6 → P 7 → P 8 → P 9 → P 10 → P 11 → P 12
-    → (kind : ℕ) → known kind ≡ true → P kind
-each-kind P p₁ p₂ p₃ p₄ p₅ p₆ p₇ p₈ p₉ p₁₀ p₁₁ p₁₂ kind w =
-    each P 1 12 (p₁, (p₂, (p₃, (p₄, (p₅, (p₆, (p₇, (p₈, (p₉, (p₁₀, (p₁₁, (p₁₂, tt)))))))))))) kind
-    (let z : kind ≡ 0 → ⊥ = eqb-false kind 0 (not-true _ (and-left (not (eqb kind 0)) (leb kind 12) w)) in omega arith)
-    (let z : kind ≤ 12 = leb-true kind 12 (and-right (not (eqb kind 0)) (leb kind 12) w) in omega arith)
-
 module _ (a n : ℕ) (xs : List ℕ) where
   read-count : (t : Bool) → eqb n 0 ≡ t → 1 ≤ cond t 256 n
   read-count true e = omega arith
   read-count false e = let h : n ≡ 0 → ⊥ = eqb-false n 0 e in omega arith
 
   made-fields : (kind : ℕ) → known kind ≡ true → inRange kind a n ≡ true → length xs ≡ dataLength kind n → Fields (made kind a n xs)
-  unfolding inRange dataLength made
+  unfolding kinds inRange dataLength made
   made-fields =
       each-kind (λ kind. inRange kind a n ≡ true → length xs ≡ dataLength kind n → Fields (made kind a n xs))
       (λ r l. tt)
@@ -109,7 +102,7 @@ pub decode-whole : (part : List ℕ) (k : Command) (n : ℕ) → Accepted part k
 unfolding decode
 decode-whole part k n a =
     let w = a .within in
-    rw (ne-eqb (length part) 0 (λ e. omega arith), a .kind, le-ltb (length part) (dataAt part) (omega arith), a .fields, le-ltb (length part) (recordLength part) w, a .command, a .length)
+    rw (ne-eqb (length part) 0 (λ e. omega arith), a .kind, le-ltb (length part) (dataAt part) (omega arith), a .fields, le-ltb (length part) (recordLength part) w, a .command, a .size)
 
 -- fixed fields that a kind does not have play no part
 record Alike (kind a n a′ n′ : ℕ) : Type 0 where
@@ -119,7 +112,7 @@ record Alike (kind a n a′ n′ : ℕ) : Type 0 where
 
 module _ (a n a′ n′ : ℕ) where
   alike : (kind : ℕ) → known kind ≡ true → (1 ≤ fixedFields kind → a′ ≡ a) → (2 ≤ fixedFields kind → n′ ≡ n) → Alike kind a n a′ n′
-  unfolding fixedFields inRange dataLength made
+  unfolding kinds fixedFields inRange dataLength made
   alike =
       each-kind (λ kind. (1 ≤ fixedFields kind → a′ ≡ a) → (2 ≤ fixedFields kind → n′ ≡ n) → Alike kind a n a′ n′)
       (λ p q. record { range = refl; size = refl; command = λ xs. refl })
@@ -150,7 +143,7 @@ decode-front part k n e =
       fields = rw at-kind (same .range ∙ a .fields);
       within = rw (own-length, long) (le-refl n);
       command = ap (λ (x : ℕ). made x (at own 1) (at own 2) (dataOf own)) at-kind ∙ same .command (dataOf own) ∙ ap (made (at part 0) (at part 1) (at part 2)) same-data ∙ a .command;
-      length = long;
+      size = long;
     })
   where
     own : List ℕ
@@ -160,48 +153,41 @@ decode-front part k n e =
     a = accepted part k n e
 
     own-length : length own ≡ n
-    own-length = length-take-le n part (let w = a .within in let l = a .length in omega arith)
+    own-length = length-take-le n part (let w = a .within in let l = a .size in omega arith)
 
     at-own : (i : ℕ) → i < n → at own i ≡ at part i
     at-own i h = getD-take n part i 0 h
 
     at-kind : at own 0 ≡ at part 0
-    at-kind = at-own 0 (let l = a .length in omega arith)
+    at-kind = at-own 0 (let l = a .size in omega arith)
 
     same : Alike (at part 0) (at part 1) (at part 2) (at own 1) (at own 2)
     same =
-        let l = a .length in
+        let l = a .size in
         alike (at part 1) (at part 2) (at own 1) (at own 2) (at part 0) (a .kind) (λ h. at-own 1 (omega arith)) (λ h. at-own 2 (omega arith))
 
     long : recordLength own ≡ n
-    long = rw (at-kind, same .size) (a .length)
+    long = rw (at-kind, same .size) (a .size)
 
     same-data : dataOf own ≡ dataOf part
     same-data =
         rw (at-kind, same .size)
-        (ap (λ (m : ℕ). take (dataLength (at part 0) (at part 2)) (drop (dataAt part) (take m part))) (sym (a .length))
+        (ap (λ (m : ℕ). take (dataLength (at part 0) (at part 2)) (drop (dataAt part) (take m part))) (sym (a .size))
         ∙ front-part (dataAt part) (dataLength (at part 0) (at part 2)) part (a .within))
 
 -- ---- how long a record can be
 
 pub fixed-small : (kind : ℕ) → fixedFields kind ≤ 2
-unfolding fixedFields
-fixed-small kind =
-    choice P (eqb kind 3) 1 _ (omega arith)
-    (choice P (eqb kind 4) 2 _ (omega arith)
-    (choice P (eqb kind 5) 2 _ (omega arith)
-    (choice P (eqb kind 6) 2 _ (omega arith)
-    (choice P (eqb kind 7) 2 _ (omega arith)
-    (choice P (eqb kind 10) 1 _ (omega arith) (choice P (eqb kind 12) 1 0 (omega arith) (omega arith)))))))
-  where
-    P : ℕ → Type 0
-    P n = n ≤ 2
+unfolding kinds fixedFields
+fixed-small =
+    each-row (λ (r : Kind). r .fixed ≤ 2)
+    (omega arith) (omega arith) (omega arith) (omega arith) (omega arith) (omega arith)
+    (omega arith) (omega arith) (omega arith) (omega arith) (omega arith) (omega arith)
 
 pub data-small : (kind n : ℕ) → n < 256 → dataLength kind n < 256
-unfolding dataLength
+unfolding kinds dataLength
 data-small kind n h =
-    choice P (eqb kind 5) n _ h
-    (choice P (eqb kind 7) n _ h (choice P (eqb kind 10) 3 _ (omega arith) (choice P (eqb kind 12) 8 0 (omega arith) (omega arith))))
-  where
-    P : ℕ → Type 0
-    P m = m < 256
+    each-row (λ (r : Kind). r .follow n < 256)
+    (omega arith) (omega arith) (omega arith) (omega arith) h (omega arith)
+    h (omega arith) (omega arith) (omega arith) (omega arith) (omega arith)
+    kind

@@ -6,18 +6,21 @@ use native.Mathlib.Omega.{arith}
 use borrow.Author.Tests.{ltb-true}
 use lib.ListN.{length, take, drop, length-append, length-take, length-drop, take-append-drop, drop-of-length-le}
 use lib.Seq.{sets, sets-eq, length-sets, drop-append-le, drop-drop, take-all, length-take-le}
-use Rattle.model.specs.Lists.{at, and-left}
-use Rattle.model.specs.Numbers.{bytesOf, sets-append}
+use Rattle.model.specs.Sizes.{cardSize, leastSession, leastLog}
+use Rattle.model.specs.Lists.{at}
+use Rattle.laws.specs.BoolLaws.{and-left}
+use Rattle.model.specs.Numbers.{bytesOf}
+use Rattle.laws.specs.NumberLaws.{sets-append}
 use Rattle.model.specs.At88sc1608.{at88sc1608}
 use Rattle.model.specs.Call.{Powered, powered, refused, whole}
-use Rattle.model.specs.CallLaws.{refused-whole}
+use Rattle.laws.specs.CallLaws.{refused-whole}
 use Rattle.model.specs.Command.{Command}
-use Rattle.model.specs.Effects.{answerLength, answer-length}
+use Rattle.laws.specs.Effects.{answerLength, answer-length}
 use Rattle.model.specs.Log.{entryBytes, entriesBytes, logTrailer}
 use Rattle.model.specs.Reader.{recordsEnd, partAt, nextOf}
-use Rattle.model.specs.ReaderLaws.{next-within}
-use Rattle.model.specs.RecordLaws.{decode-fields, decode-within}
-use Rattle.model.specs.Sane.{Good, good-after}
+use Rattle.laws.specs.ReaderLaws.{next-within}
+use Rattle.laws.specs.RecordLaws.{decode-fields, decode-within}
+use Rattle.laws.specs.Sane.{Good, good-after}
 use Rattle.model.specs.Session.{cardOf, startOf, countOf, readFrom, all, kindOf, logged, after, entriesOf, endOf, initial}
 use Rattle.model.specs.Single.{apply}
 use Rattle.model.specs.Volatile.{Volatile, powerUp}
@@ -128,14 +131,14 @@ module _ (s : List ℕ) (start count : ℕ) (c₀ log₀ : List ℕ) (at place l
 
     -- the record is whole
     pub going-never : (n : ℕ) → refused n ≡ nextOf s at → ⊥
-    going-never n e = refused-whole n (next .command) (next .length) (e ∙ next .next)
+    going-never n e = refused-whole n (next .command) (next .size) (e ∙ next .next)
 
     module _ (k : Command) (n : ℕ) (e : whole k n ≡ nextOf s at) where
       command-is : next .command ≡ k
-      command-is = let q : whole (next .command) (next .length) ≡ whole k n = sym (next .next) ∙ sym e in cc
+      command-is = let q : whole (next .command) (next .size) ≡ whole k n = sym (next .next) ∙ sym e in cc
 
-      length-is : next .length ≡ n
-      length-is = let q : whole (next .command) (next .length) ≡ whole k n = sym (next .next) ∙ sym e in cc
+      length-is : next .size ≡ n
+      length-is = let q : whole (next .command) (next .size) ≡ whole k n = sym (next .next) ∙ sym e in cc
 
       list-is : g .rest ≡ k ∷ next .others
       list-is = next .list ∙ ap (λ (x : Command). x ∷ next .others) command-is
@@ -202,12 +205,12 @@ entries-total [] m = refl
 entries-total (k ∷ ks) m = entry-length k ks m ∙ ap (λ (n : ℕ). 3 + answerLength at88sc1608 k + n) (entries-total ks (after m k))
 
 module _ (s : List ℕ) (entries : ℕ) (log : List ℕ) (r : LogReady s entries log) where
-  pub session-long : 2185 ≤ length s
+  pub session-long : leastSession ≤ length s
   session-long = framed-well s (r .frames) .long
 
-  module _ (blank card : List ℕ) (start count : ℕ) (size : length blank ≡ 2177) (copied : card ≡ sets blank 0 (take 2177 s)) (starts : start ≡ startOf s) (counts : count ≡ countOf s) where
+  module _ (blank card : List ℕ) (start count : ℕ) (size : length blank ≡ cardSize) (copied : card ≡ sets blank 0 (take cardSize s)) (starts : start ≡ startOf s) (counts : count ≡ countOf s) where
     card-is : card ≡ cardOf s
-    card-is = copied ∙ sets-whole blank (take 2177 s) (length-take-le 2177 s (let l = session-long in omega arith) ∙ sym size)
+    card-is = copied ∙ sets-whole blank (take cardSize s) (length-take-le cardSize s (let l = session-long in omega arith) ∙ sym size)
 
     pub records-ready : RecordsReady s start count card log
     records-ready =
@@ -220,8 +223,8 @@ module _ (s : List ℕ) (entries : ℕ) (log : List ℕ) (r : LogReady s entries
           room = let t = r .total in let q = r .room in omega arith;
         })
 
-    pub log-written : (card′ log₁ log₂ log₃ : List ℕ) → RecordsRun s start count card log card′ log₁ → log₂ ≡ sets log₁ entries (take 2177 card′)
-        → log₃ ≡ sets log₂ (entries + 2177) (logTrailer entries count) → LogWritten s log log₃
+    pub log-written : (card′ log₁ log₂ log₃ : List ℕ) → RecordsRun s start count card log card′ log₁ → log₂ ≡ sets log₁ entries (take cardSize card′)
+        → log₃ ≡ sets log₂ (entries + cardSize) (logTrailer entries count) → LogWritten s log log₃
     log-written card′ log₁ log₂ log₃ w e₂ e₃ =
         record {
           commands = r .commands;
@@ -249,8 +252,8 @@ module _ (s : List ℕ) (entries : ℕ) (log : List ℕ) (r : LogReady s entries
         final-is : card′ ≡ final
         final-is = w .card ∙ (λ t. endOf (ks-same t) (powered (card-is t) powerUp) .card)
 
-        final-long : length final ≡ 2177
-        final-long = end-length ks (initial s) ∙ length-take-le 2177 s (let l = session-long in omega arith)
+        final-long : length final ≡ cardSize
+        final-long = end-length ks (initial s) ∙ length-take-le cardSize s (let l = session-long in omega arith)
 
         entries-is : entries ≡ length front
         entries-is = r .total ∙ sym (entries-total ks (initial s))
@@ -263,8 +266,8 @@ module _ (s : List ℕ) (entries : ℕ) (log : List ℕ) (r : LogReady s entries
 
         second : log₂ ≡ sets log 0 (front ++ final)
         second =
-            e₂ ∙ (λ t. sets (first t) (second-place t) (take 2177 (final-is t)))
-            ∙ ap (sets (sets log 0 front) (0 + length front)) (take-all 2177 final (let l = final-long in omega arith)) ∙ sets-append log 0 front final
+            e₂ ∙ (λ t. sets (first t) (second-place t) (take cardSize (final-is t)))
+            ∙ ap (sets (sets log 0 front) (0 + length front)) (take-all cardSize final (let l = final-long in omega arith)) ∙ sets-append log 0 front final
 
-        third-place : entries + 2177 ≡ 0 + length (front ++ final)
+        third-place : entries + cardSize ≡ 0 + length (front ++ final)
         third-place = let e = entries-is in let l = final-long in let a = length-append front final in omega arith

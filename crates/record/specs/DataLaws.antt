@@ -3,7 +3,7 @@ use Prim.Native.Nat.{ℕ, _-_, _≤_, _<_}
 use mathlib.Core.List.{List}
 use native.Mathlib.Omega.{arith}
 use lib.ListN.{length, drop, length-take}
-use Rattle.record.specs.Record.{between}
+use Rattle.record.specs.DecodedRecord.{between}
 
 -- a part with a byte in it ends past its start
 pub between-some : (from to : ℕ) (part : List ℕ) → 1 ≤ length (between from to part) → from < to

@@ -10,7 +10,8 @@ use borrow.Author.Needs.{needs}
 use borrow.Author.Tests.{lt-ltb, le-ltb, le-leb, lt-leb, eq-eqb, ne-eqb}
 use lib.ListN.{length, take, drop, set, take-append-drop, drop-of-length-le, length-set}
 use lib.Seq.{drop-cons, set-at, set-getD, getD-take, getD-drop, take-set-le, take-set-lt, drop-set-lt, drop-set-add}
-use Rattle.model.specs.Lists.{at, tab, stores, length-tab}
+use Rattle.model.specs.Lists.{at, tab, stores}
+use Rattle.laws.specs.ListLaws.{length-tab}
 
 pub ruleset tests = (needs, lt-ltb, le-ltb, le-leb, lt-leb, eq-eqb, ne-eqb)
 

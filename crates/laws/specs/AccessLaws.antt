@@ -5,11 +5,14 @@ use mathlib.Core.Path.{_≡_, _∙_}
 use native.Mathlib.Omega.{arith}
 use lib.Dec.{ltb, eqb}
 use borrow.Author.Tests.{lt-ltb, le-ltb, ne-eqb}
-use Rattle.model.specs.Lists.{at, at-tab, choice}
+use Rattle.model.specs.Sizes.{fuseAt}
+use Rattle.model.specs.Lists.{at}
+use Rattle.laws.specs.ListLaws.{at-tab}
+use Rattle.laws.specs.BoolLaws.{choice}
 use Rattle.model.specs.Volatile.{Volatile}
 use Rattle.model.specs.Access.{zoneReadable, zoneWritable, zoneMerge, areaOf, stageOf, configurationAllows}
-use Rattle.model.specs.At88sc1608.{at88sc1608, fuseAt, registerAt, ruleAt, fuses, registerOf, mayRead, mayWrite, merge}
+use Rattle.model.specs.At88sc1608.{at88sc1608, registerAt, ruleAt, fuses, registerOf, mayRead, mayWrite, merge}
 use Rattle.model.specs.Apply.{rules}
 
 -- ---- the rule bytes of a card
 
@@ -37,13 +40,13 @@ zone-merged ρ i old new h = rw (lt-ltb i 2048 h)
 
 -- ---- a place of the configuration
 
-pub configuration-read : (ρ : List ℕ) (s : Volatile) (i : ℕ) → 2048 ≤ i → i < 2176 → mayRead ρ s i ≡ configurationAllows 0 (fuses ρ) (i - 2048) (s .active)
+pub configuration-read : (ρ : List ℕ) (s : Volatile) (i : ℕ) → 2048 ≤ i → i < fuseAt → mayRead ρ s i ≡ configurationAllows 0 (fuses ρ) (i - 2048) (s .active)
 unfolding mayRead
-configuration-read ρ s i h k = rw (le-ltb i 2048 h, lt-ltb i 2176 k)
+configuration-read ρ s i h k = rw (le-ltb i 2048 h, lt-ltb i fuseAt k)
 
-pub configuration-written : (ρ : List ℕ) (s : Volatile) (i : ℕ) → 2048 ≤ i → i < 2176 → mayWrite ρ s i ≡ configurationAllows 1 (fuses ρ) (i - 2048) (s .active)
+pub configuration-written : (ρ : List ℕ) (s : Volatile) (i : ℕ) → 2048 ≤ i → i < fuseAt → mayWrite ρ s i ≡ configurationAllows 1 (fuses ρ) (i - 2048) (s .active)
 unfolding mayWrite
-configuration-written ρ s i h k = rw (le-ltb i 2048 h, lt-ltb i 2176 k)
+configuration-written ρ s i h k = rw (le-ltb i 2048 h, lt-ltb i fuseAt k)
 
 pub configuration-merged : (ρ : List ℕ) (i old new : ℕ) → 2048 ≤ i → merge ρ i old new ≡ new
 unfolding merge

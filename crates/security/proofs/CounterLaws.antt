@@ -3,7 +3,7 @@ use Prim.Native.Nat.{ℕ, _-_, _<_}
 use mathlib.Core.Path.{_≡_, refl}
 use lib.Bits.{bitAnd}
 use Rattle.model.specs.Bits.{spentCounter}
-use Rattle.model.specs.Tables.{agree-at}
+use Rattle.laws.specs.Tables.{agree-at}
 
 pub cleared : (x : ℕ) → x < 256 → bitAnd x (x - 1) ≡ spentCounter x
 unfolding spentCounter

@@ -10,7 +10,7 @@ use Rattle.record.specs.declared.decoder.Record.{Record}
 use Rattle.record.specs.declared.decoder.Record.the-variants as kind
 use Rattle.record.specs.declared.decoder.Decoded.{Decoded}
 use Rattle.record.specs.declared.decoder.Decoded.the-variants as decoded
-use Rattle.record.specs.Refusal.{refusalNumber}
+use Rattle.record.specs.RefusalNumber.{refusalNumber}
 
 -- the bytes of a part from a place up to the record's end
 abbrev pub between : ℕ → ℕ → List ℕ → List ℕ

@@ -1,0 +1,27 @@
+-- The sizes of the card, of sessions and of logs, each under one name ("The card", "Session and log").
+use Prim.Native.Nat.{ℕ, _+_}
+
+-- zones and configuration, then the fuse byte
+abbrev pub fuseAt : ℕ
+fuseAt = 2176
+
+abbrev pub cardSize : ℕ
+cardSize = 2177
+
+-- what stands behind the records of a session, and behind the card of a log
+abbrev pub trailerSize : ℕ
+trailerSize = 8
+
+-- a session without text and records, and the longest one
+abbrev pub leastSession : ℕ
+leastSession = cardSize + trailerSize
+
+abbrev pub greatestSession : ℕ
+greatestSession = 65536
+
+-- a log without entries
+abbrev pub leastLog : ℕ
+leastLog = cardSize + trailerSize
+
+abbrev pub mostRecords : ℕ
+mostRecords = 4096

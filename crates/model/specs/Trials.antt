@@ -1,0 +1,35 @@
+-- Trials: records sent one by one, as single commands, to a whole card that was just powered up. What the tables of cases and of
+-- mistakes are computed with.
+use Prim.Native.Nat.{ℕ, _+_}
+use mathlib.Core.List.{List, [], _∷_, _++_, map}
+use lib.ListN.{replicate}
+use Rattle.model.specs.Sizes.{fuseAt}
+use Rattle.model.specs.Volatile.{Volatile, Active, none, selector, powerUp}
+use Rattle.model.specs.Call.{Call, Powered}
+use Rattle.model.specs.Single.{replies, final}
+
+-- a card of $FF bytes with the fuse byte f
+abbrev pub blank : ℕ → List ℕ
+blank f = replicate fuseAt 0xFF ++ (f ∷ [])
+
+-- records, each with a response space of four bytes that hold $99, sent to a card that was just powered up
+abbrev pub call : List ℕ → Call
+call bytes = record { sent = bytes; space = replicate 4 0x99 }
+
+abbrev pub on : List ℕ → Powered Volatile
+on c = record { card = c; state = powerUp }
+
+abbrev pub spaces : List ℕ → List (List ℕ) → List (List ℕ)
+spaces c records = map (λ r. r .space) (replies (map call records) (on c))
+
+abbrev pub left : List ℕ → List (List ℕ) → Powered Volatile
+left c records = final (map call records) (on c)
+
+-- the active password as a number: 0 for none
+abbrev pub activeNumber : Active → ℕ
+activeNumber none = 0
+activeNumber (selector k) = 1 + k
+
+-- what a row shows: what the model gives, and what is right
+abbrev pub Case : Type 0
+Case = List (List ℕ) × List (List ℕ)

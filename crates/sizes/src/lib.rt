@@ -1,0 +1,28 @@
+// The sizes of the card, of sessions and of logs, each under one name.
+
+// The card's map: where the configuration starts, its access registers, the authentication attempts counter, the cryptogram,
+// the fuse byte; and the length of the whole.
+pub const CONFIGURATION: usize = 2048;
+
+pub const REGISTERS: usize = CONFIGURATION + 16;
+
+pub const ATTEMPTS: usize = CONFIGURATION + 32;
+
+pub const CRYPTOGRAM: usize = CONFIGURATION + 40;
+
+pub const FUSES: usize = 2176;
+
+pub const CARD: usize = 2177;
+
+// What stands behind the records of a session, and behind the card of a log.
+pub const TRAILER: usize = 8;
+
+// A session without text and records, and the longest one.
+pub const LEAST_SESSION: usize = CARD + TRAILER;
+
+pub const GREATEST_SESSION: usize = 65536;
+
+// A log without entries.
+pub const LEAST_LOG: usize = CARD + TRAILER;
+
+pub const MOST_RECORDS: usize = 4096;
