@@ -6,6 +6,7 @@ use mathlib.Core.Bool.{Bool, true, false}
 use mathlib.Core.List.{List, [], _∷_, map}
 use mathlib.Core.Path.{_≡_, refl, sym, ap, _∙_}
 use native.Mathlib.Omega.{arith}
+use lib.ListN.{length}
 use Rattle.model.specs.Call.{Call, Powered, powered, step}
 use Rattle.model.specs.Call as calls
 use Rattle.model.specs.Lists.{at}
@@ -69,9 +70,10 @@ all-injective (g ∷ gs) (h ∷ hs) e =
 
 -- ---- the claims
 
--- two runs of the code that are not told apart: what every call gives back is equal, and the cards left agree
+-- two runs of the code that are not told apart: what every call gives back is equal, and the cards left are equally long and agree
 pub record NotToldApart (hidden : ℕ → Bool) (gs₁ gs₂ : List Given) (d₁ d₂ : List ℕ) : Type 0 where
   pub observed : gs₁ ≡ gs₂
+  pub long : length d₁ ≡ length d₂
   pub counters : (n : Counter) → at d₁ (counterPlace at88sc1608 n) ≡ at d₂ (counterPlace at88sc1608 n)
   pub outside : (i : ℕ) → hidden i ≡ false → at d₁ i ≡ at d₂ i
 
@@ -86,6 +88,7 @@ from-model hidden xs b₁ b₂ s gs₁ gs₂ d₁ d₂ e r₁ r₂ w =
       observed =
           all-injective gs₁ gs₂
           (m₁ .0 ∙ ap (λ (t : model.Volatile). replies xs (powered b₁ t)) e ∙ w .observed ∙ ap (λ (t : model.Volatile). replies xs (powered b₂ t)) (sym e) ∙ sym (m₂ .0));
+      long = rw (f₁, f₂) (w .long);
       counters = λ n. rw (f₁, f₂) (w .counters n);
       outside = λ i h. rw (f₁, f₂) (w .outside i h);
     }

@@ -18,16 +18,16 @@ use Rattle.command.specs.declared.Outcome.the-variants as outcome
 use Rattle.command.specs.Reply.{outcomeNumber}
 
 -- the other way round
-abbrev activeFrom : model.Active → Active
+abbrev pub activeFrom : model.Active → Active
 activeFrom model.none = active.None
 activeFrom (model.selector k) = active.Selector k
 
-abbrev authenticationFrom : model.Authentication → Authentication
+abbrev pub authenticationFrom : model.Authentication → Authentication
 authenticationFrom model.idle = authentication.Idle
 authenticationFrom model.begun = authentication.Begun
 authenticationFrom model.granted = authentication.Granted
 
-abbrev outcomeFrom : ℕ → Outcome
+abbrev pub outcomeFrom : ℕ → Outcome
 outcomeFrom n =
     cond (eqb n 0) outcome.Accepted
     (outcome.Refused

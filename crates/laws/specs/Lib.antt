@@ -8,6 +8,7 @@ pub mod ReversalLaws
 pub mod CallLaws
 pub mod KindLaws
 pub mod RecordLaws
+pub mod SingleLaws
 pub mod ReaderLaws
 pub mod AccessLaws
 pub mod Effects

@@ -107,15 +107,15 @@ first-append [] ys n = refl
 first-append (x ∷ xs) ys n = ap (cond (x .applies) (x .number)) (first-append xs ys n)
 
 -- numbers of refusals are not 0
-abbrev Numbered : List Condition → Type 0
+abbrev pub Numbered : List Condition → Type 0
 Numbered [] = Unit {0}
 Numbered (x ∷ xs) = (1 ≤ x .number) × Numbered xs
 
-numbered-append : (xs ys : List Condition) → Numbered xs → Numbered ys → Numbered (xs ++ ys)
+pub numbered-append : (xs ys : List Condition) → Numbered xs → Numbered ys → Numbered (xs ++ ys)
 numbered-append [] ys p q = q
 numbered-append (x ∷ xs) ys p q = (p .0, numbered-append xs ys (p .1) q)
 
-none-applies : (xs : List Condition) → Numbered xs → first xs 0 ≡ 0 → NoneApplies xs
+pub none-applies : (xs : List Condition) → Numbered xs → first xs 0 ≡ 0 → NoneApplies xs
 none-applies [] p e = tt
 none-applies (x ∷ xs) p e = go (none-applies xs (p .1)) (x .applies) refl e
   where
@@ -123,13 +123,13 @@ none-applies (x ∷ xs) p e = go (none-applies xs (p .1)) (x .applies) refl e
     go others true q e = absurd (let n = p .0 in let z : ⊥ = omega arith in z)
     go others false q e = (q, others e)
 
-none-first : (xs : List Condition) → NoneApplies xs → first xs 0 ≡ 0
+pub none-first : (xs : List Condition) → NoneApplies xs → first xs 0 ≡ 0
 none-first [] n = refl
 none-first (x ∷ xs) n = rw (n .0) (none-first xs (n .1))
 
 -- ---- one record
 
-first-record : (part : List ℕ) (n : ℕ) (d : Decoded Command) → decode part ≡ d → first (recordConditions part) n ≡ onDecoded d (λ r. r) (λ k m. n)
+pub first-record : (part : List ℕ) (n : ℕ) (d : Decoded Command) → decode part ≡ d → first (recordConditions part) n ≡ onDecoded d (λ r. r) (λ k m. n)
 unfolding decode
 first-record part n d e = go (eqb (length part) 0) (not (known (at part 0))) (ltb (length part) (dataAt part)) (not (inRange (at part 0) (at part 1) (at part 2))) (ltb (length part) (recordLength part)) ∙ ap (λ (x : Decoded Command). onDecoded x (λ r. r) (λ k m. n)) e
   where
@@ -240,7 +240,7 @@ refusal-is s space =
         let l : leastSession ≤ length s = leb-true _ _ (and-left (leb leastSession (length s)) _ (not-false _ e)) in
         ap rest (past-records s space (omega arith) (readFrom (countOf s) s (startOf s)) refl ∙ sym (first-append (recordsConditions (countOf s) s (startOf s)) (lastConditions s space) 0))
 
-some : (n : ℕ) → 1 ≤ suc n
+pub some : (n : ℕ) → 1 ≤ suc n
 some n = omega arith
 
 records-numbered : (n : ℕ) (s : List ℕ) (i : ℕ) → Numbered (recordsConditions n s i)

@@ -7,6 +7,9 @@ pub mod Refused
 pub mod Conditions
 pub mod ReadBack
 pub mod EachRecord
+pub mod CallConditions
+pub mod CallConditionsLaws
+pub mod CallAcceptance
 pub mod AsCalls
 pub mod Alike
 pub mod SessionSecrecy

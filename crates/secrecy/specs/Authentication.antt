@@ -87,4 +87,4 @@ claim z zl b₁ b₂ s₁ s₂ r h xs a =
     indistinguishable at88sc1608 (rules at88sc1608 b₁) (inZone z) secret Locked AcceptsNot b₁ b₂
     (confines z zl (rules at88sc1608 b₁) (fuse-rule b₁ ∙ s₁ .blown) (ap ate (register-rule b₁ z zl) ∙ r))
     (allows b₁ b₂) decode powerUp refl h refl xs a in
-    record { observed = v .0; counters = λ n. v .1 .same _ (decides z zl .counter n); outside = v .1 .same }
+    record { observed = v .0; long = v .1 .long; counters = λ n. v .1 .same _ (decides z zl .counter n); outside = v .1 .same }

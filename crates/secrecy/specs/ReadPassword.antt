@@ -158,6 +158,7 @@ claim z zl b₁ b₂ s₁ s₂ r h xs a =
     (allows z p zl pl b₁ b₂) decode powerUp refl h (refl, refl) xs a in
     record {
       observed = v .0;
+      long = v .1 .long;
       counters = λ n. v .1 .same _ (decides z p zl pl .counter n);
       outside = v .1 .same;
     }

@@ -55,10 +55,11 @@ AcceptsNot k = (xs : List ℕ) → k ≡ verifyAuthentication true xs → ⊥
 abbrev pub Throughout : (Command → Type 0) → List Call → List ℕ → Type 0
 Throughout Ok xs b = Along check decode apply (λ c s k. Ok k) xs (powered b powerUp)
 
--- A list of calls, from power-up on, gives back the same on both cards, call by call, and leaves equal counters and equal bytes
--- outside the hidden places.
+-- A list of calls, from power-up on, gives back the same on both cards, call by call, and leaves equally long cards with equal
+-- counters and equal bytes outside the hidden places.
 pub record Indistinguishable (hidden : ℕ → Bool) (xs : List Call) (b₁ b₂ : List ℕ) : Type 0 where
   pub observed : replies xs (powered b₁ powerUp) ≡ replies xs (powered b₂ powerUp)
+  pub long : length (final xs (powered b₁ powerUp) .card) ≡ length (final xs (powered b₂ powerUp) .card)
   pub counters : (n : Counter)
       → at (final xs (powered b₁ powerUp) .card) (counterPlace at88sc1608 n) ≡ at (final xs (powered b₂ powerUp) .card) (counterPlace at88sc1608 n)
   pub outside : (i : ℕ) → hidden i ≡ false → at (final xs (powered b₁ powerUp) .card) i ≡ at (final xs (powered b₂ powerUp) .card) i

@@ -1,0 +1,34 @@
+-- A single command is accepted exactly when no refusal number applies, and a refused one gets the first that applies; an accepted one
+-- does what a session does with that record.
+use Prim.Native.Nat.{ℕ}
+use mathlib.Core.List.{List}
+use mathlib.Core.Logic.{_↔_}
+use mathlib.Core.Path.{_≡_}
+use lib.ListN.{length}
+use Rattle.model.specs.Volatile.{Volatile}
+use Rattle.model.specs.Command.{Command}
+use Rattle.model.specs.Call.{powered, calling, whole}
+use Rattle.model.specs.Record.{decode}
+use Rattle.model.specs.Session.{logged, after}
+use Rattle.model.specs.Single.{command}
+use Rattle.properties.specs.Conditions.{first, NoneApplies}
+use Rattle.properties.specs.EachRecord.{leaving}
+use Rattle.properties.specs.CallConditions.{callConditions}
+use Rattle.properties.specs.CallConditionsLaws.{refusal-first, call-numbered, zero-iff, carries}
+
+module _ (c : List ℕ) (s : Volatile) (bytes space : List ℕ) where
+  -- the refusal of a single command is the first that applies, in the paper's order; 0 where none does
+  pub call-refusal-is : command c s (calling bytes space) .reply .refusal ≡ first (callConditions c s bytes space) 0
+  call-refusal-is = refusal-first c s bytes space
+
+  -- it is accepted exactly when none applies
+  pub call-accepted-iff : (command c s (calling bytes space) .reply .refusal ≡ 0) ↔ NoneApplies (callConditions c s bytes space)
+  call-accepted-iff = zero-iff (callConditions c s bytes space) (call-numbered c s bytes space) _ call-refusal-is
+
+  -- Where none applies, the bytes are the record of a command k, whole. The call leaves the card and the state that k leaves in a
+  -- session's run at this card and this state, reached or not; its response is the one that is logged there, at the front of the
+  -- space, whose other bytes are kept.
+  pub call-does : NoneApplies (callConditions c s bytes space)
+      → (k : Command) × (decode bytes ≡ whole k (length bytes))
+      × (command c s (calling bytes space) ≡ leaving (after (powered c s) k) (logged (powered c s) k .response) space)
+  call-does = carries c s bytes space

@@ -1,0 +1,46 @@
+-- When a single command is refused: each number's condition by itself, from the card, the volatile state, the record's bytes and the
+-- response space alone ("Sent back with a number": single command 11, 5, 12, record, 9, 10).
+use Prim.Native.Nat.{ℕ}
+use mathlib.Core.Bool.{Bool, false, not, _||_}
+use mathlib.Core.List.{List, [], _∷_, _++_}
+use lib.Dec.{ltb, eqb}
+use lib.ListN.{length}
+use Rattle.model.specs.Sizes.{cardSize, fuseAt}
+use Rattle.model.specs.Lists.{at}
+use Rattle.model.specs.Volatile.{Volatile, Active, none, selector}
+use Rattle.model.specs.Record.{recordLength}
+use Rattle.model.specs.Refusal.{cardLength, fuseByte, stateOutOfRange, bytesLeft, noSpace}
+use Rattle.model.specs.Single.{isFuseByte}
+use Rattle.properties.specs.Conditions.{Condition, when, recordConditions, responseLength}
+
+-- 11: the card has another length
+abbrev pub wrongCardLength : List ℕ → Bool
+wrongCardLength c = not (eqb (length c) cardSize)
+
+-- 5: F, its last byte, is not 7, 6, 4 or 0
+abbrev pub wrongFuseByte : List ℕ → Bool
+wrongFuseByte c = not (isFuseByte (at c fuseAt))
+
+-- 12: the zone is above 7, or the active selector above 15
+abbrev pub selectorAbove : ℕ → Active → Bool
+selectorAbove n none = false
+selectorAbove n (selector k) = ltb n k
+
+abbrev pub wrongState : Volatile → Bool
+wrongState s = ltb 7 (s .zone) || selectorAbove 15 (s .active)
+
+-- 9: there are bytes left after the record
+abbrev pub bytesBehind : List ℕ → Bool
+bytesBehind bytes = ltb (recordLength bytes) (length bytes)
+
+-- 10: the response space is too short for the response
+abbrev pub shortSpace : List ℕ → List ℕ → Bool
+shortSpace bytes space = ltb (length space) (responseLength bytes)
+
+-- 11, 5, 12, the record's, 9, 10
+abbrev pub callConditions : List ℕ → Volatile → List ℕ → List ℕ → List Condition
+callConditions c s bytes space =
+    when cardLength (wrongCardLength c)
+    ∷ when fuseByte (wrongFuseByte c)
+    ∷ when stateOutOfRange (wrongState s)
+    ∷ (recordConditions bytes ++ (when bytesLeft (bytesBehind bytes) ∷ when noSpace (shortSpace bytes space) ∷ []))
