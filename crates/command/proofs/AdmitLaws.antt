@@ -19,7 +19,7 @@ use Rattle.record.specs.DecodedRecord.{commandOf}
 use Rattle.record.specs.RefusalNumber.{refusalNumber, number-some}
 use Rattle.record.specs.declared.decoder.Record.{Record}
 use Rattle.record.specs.declared.refusal.Refusal.{Refusal}
-use Rattle.command.specs.Alone.{answer-alone}
+use Rattle.record.specs.RecordAlone.{answer-alone}
 
 -- ---- the checks
 

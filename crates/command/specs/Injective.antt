@@ -10,12 +10,11 @@ use Rattle.access.specs.declared.volatile.Active.the-variants as active
 use Rattle.access.specs.declared.volatile.Authentication.{Authentication}
 use Rattle.access.specs.declared.volatile.Authentication.the-variants as authentication
 use Rattle.access.specs.declared.volatile.Volatile.{Volatile}
-use Rattle.record.specs.RefusalNumber.{refusalNumber}
+use Rattle.record.specs.RefusalNumber.{refusalNumber, outcomeNumber}
 use Rattle.record.specs.declared.refusal.Refusal.{Refusal}
 use Rattle.record.specs.declared.refusal.Refusal.the-variants as refusal
-use Rattle.command.specs.declared.Outcome.{Outcome}
-use Rattle.command.specs.declared.Outcome.the-variants as outcome
-use Rattle.command.specs.Reply.{outcomeNumber}
+use Rattle.record.specs.declared.refusal.Outcome.{Outcome}
+use Rattle.record.specs.declared.refusal.Outcome.the-variants as outcome
 
 -- the other way round
 abbrev pub activeFrom : model.Active → Active

@@ -1,4 +1,3 @@
-pub mod Alone
 pub mod Reply
 pub mod Injective
 pub mod CodeSecrecy

@@ -4,15 +4,8 @@ use mathlib.Core.List.{List}
 use Rattle.model.specs.Call as call
 use Rattle.model.specs.Volatile as model
 use Rattle.access.specs.State.{volatileOf}
-use Rattle.record.specs.RefusalNumber.{refusalNumber}
-use Rattle.command.specs.declared.Outcome.{Outcome}
-use Rattle.command.specs.declared.Outcome.the-variants as outcome
+use Rattle.record.specs.RefusalNumber.{outcomeNumber}
 use Rattle.command.specs.declared.Reply.{Reply}
-
--- the refusal's number, or 0
-abbrev pub outcomeNumber : Outcome → ℕ
-outcomeNumber outcome.Accepted = 0
-outcomeNumber (outcome.Refused why) = refusalNumber why
 
 -- the result with the card and the response space at exit
 abbrev pub calledOf : Reply → List ℕ → List ℕ → call.Called model.Volatile

@@ -12,7 +12,8 @@ use Rattle.laws.specs.SingleLaws.{refusal-small}
 use Rattle.access.specs.State.{activeOf, authenticationOf, volatileOf}
 use Rattle.access.specs.declared.volatile.Volatile.{Volatile}
 use Rattle.command.specs.declared.Reply.{Reply}
-use Rattle.command.specs.Reply.{outcomeNumber, calledOf}
+use Rattle.record.specs.RefusalNumber.{outcomeNumber}
+use Rattle.command.specs.Reply.{calledOf}
 use Rattle.command.specs.Injective.{activeFrom, authenticationFrom, outcomeFrom}
 use Rattle.command.specs.CodeSecrecy.{Given, Run, none, one-more}
 

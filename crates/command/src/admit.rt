@@ -1,19 +1,17 @@
 // Whether a call is refused, or which record it carries out: 11, 5, 12, the record, 9, 10.
 ghost use mathlib.Core.Path.{_≡_};
-ghost use mathlib.Core.List.{[]};
 ghost use Rattle.model.specs.At88sc1608.{at88sc1608};
-ghost use Rattle.laws.specs.Effects.{answerLength};
 ghost use Rattle.model.specs.Single as model;
 ghost use Rattle.access.specs.State.{activeOf, volatileOf};
-ghost use Rattle.record.specs.DecodedRecord.{commandOf, decodedOf};
-ghost use Rattle.command.specs.Reply.{outcomeNumber};
-use crate::Outcome;
+ghost use Rattle.record.specs.DecodedRecord.{decodedOf};
+ghost use Rattle.record.specs.RefusalNumber.{outcomeNumber};
 use access::rights::is_fuse_byte;
 use access::volatile::Active;
 use access::volatile::Volatile;
 use record::decoder::Decoded;
-use record::decoder::Record;
 use record::decoder::decode;
+use record::kind::answer_length;
+use record::refusal::Outcome;
 use record::refusal::Refusal;
 use sizes::CARD;
 use sizes::FUSES;
@@ -54,26 +52,6 @@ pub fn check(card: &[u8], state: Volatile) -> Outcome
         return Outcome::Refused(Refusal::StateOutOfRange);
     }
     Outcome::Accepted
-}
-
-// How long the answer to a record is.
-pub fn answer_length(record: Record) -> u16
-    ensures { λ r. ⌜ r ≡ answerLength at88sc1608 (commandOf [] 0 «record») ⌝ }
-{
-    match record {
-        Record::PowerCycle => 0,
-        Record::Reset => 4,
-        Record::Select(_) => 0,
-        Record::ReadZone(_, count) => count,
-        Record::WriteZone(_) => 0,
-        Record::ReadConfiguration(_, count) => count as u16,
-        Record::WriteConfiguration(_) => 0,
-        Record::ReadFuses => 1,
-        Record::WriteFuses => 0,
-        Record::VerifyPassword(_) => 0,
-        Record::BeginAuthentication => 0,
-        Record::VerifyAuthentication(_) => 0,
-    }
 }
 
 // A refusal, or the record that the call carries out and its length.

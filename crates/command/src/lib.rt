@@ -5,18 +5,13 @@ ghost use Rattle.model.specs.Single as model;
 ghost use Rattle.access.specs.State.{volatileOf};
 ghost use Rattle.command.specs.Reply.{calledOf};
 use crate::admit::admit;
-use crate::admit::answer_length;
 use access::volatile::Volatile;
 use carry::carry_out;
 use record::decoder::Decoded;
-use record::refusal::Refusal;
+use record::kind::answer_length;
+use record::refusal::Outcome;
 
 pub mod admit;
-
-pub enum Outcome {
-    Accepted,
-    Refused(Refusal),
-}
 
 // What a call gives back beside the response space.
 pub struct Reply {

@@ -8,11 +8,10 @@ use borrow.Author.Tests.{lt-ltb, le-ltb, eq-eqb, ne-eqb, not-true, not-false}
 use lib.ListN.{length, set}
 use Rattle.model.specs.Lists.{at}
 use Rattle.model.specs.Volatile.{Volatile, Active, Authentication}
-use Rattle.record.specs.RefusalNumber.{number-some}
+use Rattle.record.specs.RefusalNumber.{number-some, outcomeNumber}
 use Rattle.record.specs.declared.refusal.Refusal.{Refusal}
-use Rattle.command.specs.Reply.{outcomeNumber}
-use Rattle.command.specs.declared.Outcome.{Outcome}
-use Rattle.command.specs.declared.Outcome.the-variants as outcome
+use Rattle.record.specs.declared.refusal.Outcome.{Outcome}
+use Rattle.record.specs.declared.refusal.Outcome.the-variants as outcome
 use Rattle.exports.specs.StateBytes.{activeFlag, activeSelector, authenticationByte, activeInRange, isState, activeRead, authenticationRead, noState, stateOf, stateAfter}
 use Rattle.exports.specs.StateLaws.{state-long}
 

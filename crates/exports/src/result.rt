@@ -3,22 +3,12 @@ ghost use mathlib.Core.Path.{_≡_};
 ghost use Prim.Native.Nat.{_*_, _≤_, _^_};
 ghost use Rattle.model.specs.Sizes.{mostRecords};
 ghost use Rattle.model.specs.Log.{located};
-ghost use Rattle.command.specs.Reply.{outcomeNumber};
+ghost use Rattle.record.specs.RefusalNumber.{outcomeNumber};
 ghost use Rattle.exports.specs.Exports.{result, exportedAnswer};
-use command::Outcome;
-use record::refusal::number;
+use record::refusal::Outcome;
+use record::refusal::outcome_number;
 
-// The refusal's number, or 0.
-fn outcome_number(outcome: Outcome) -> u8
-    ensures { λ r. ⌜ r ≡ outcomeNumber outcome ⌝ }
-{
-    match outcome {
-        Outcome::Accepted => 0,
-        Outcome::Refused(why) => number(why),
-    }
-}
-
-// helper: that number with 2^8 times a length.
+// helper: the refusal's number, or 0, with 2^8 times a length.
 pub fn result_number(outcome: Outcome, length: usize) -> u64
     requires { ⌜ length ≤ 2 ^ 32 ⌝ }
     ensures { λ r. ⌜ r ≡ result (outcomeNumber outcome) length ⌝ }

@@ -2,13 +2,13 @@
 ghost use mathlib.Core.Path.{_≡_};
 ghost use lib.ListN.{length};
 ghost use Rattle.access.specs.State.{activeOf, authenticationOf, volatileOf};
-ghost use Rattle.command.specs.Reply.{outcomeNumber};
+ghost use Rattle.record.specs.RefusalNumber.{outcomeNumber};
 ghost use Rattle.exports.specs.StateBytes.{activeFlag, activeSelector, authenticationByte, activeInRange, isState, activeRead, authenticationRead, stateOf, stateAfter};
 use access::volatile::Active;
 use access::volatile::Authentication;
 use access::volatile::Volatile;
 use access::volatile::Zone;
-use command::Outcome;
+use record::refusal::Outcome;
 
 fn active_flag(active: Active) -> u8
     ensures { λ r. ⌜ r ≡ activeFlag (activeOf active) ⌝ }

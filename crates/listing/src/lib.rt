@@ -3,9 +3,9 @@ ghost use mathlib.Core.Path.{_≡_};
 ghost use Rattle.listing.specs.Listing as model;
 use crate::lines::put_log;
 use crate::lines::put_refusal;
-use command::Outcome;
-use memory::copy::least;
+use record::refusal::Outcome;
 use session::run;
+use slices::least;
 
 pub mod lines;
 

@@ -1,3 +1,2 @@
-mod CopyLaws
 mod RollLaws
 mod ZoneMemoryLaws

@@ -1,4 +1,3 @@
-// The bytes of the zones, read and written, and runs of bytes.
-pub mod copy;
+// The bytes of the zones, read and written.
 pub mod page;
 pub mod zone;

@@ -10,9 +10,6 @@ ghost use Rattle.model.specs.Command.{readZone, writeZone};
 ghost use Rattle.model.specs.Single.{apply};
 ghost use Rattle.memory.specs.ZonePage.{mergesOf};
 ghost use Rattle.access.specs.State.{volatileOf};
-use crate::copy::clear;
-use crate::copy::copy;
-use crate::copy::least;
 use crate::page;
 use access::register;
 use access::rights::zone_readable;
@@ -20,6 +17,9 @@ use access::rights::zone_writable;
 use access::volatile::Volatile;
 use sizes::FUSES;
 use sizes::REGISTERS;
+use slices::clear;
+use slices::copy;
+use slices::least;
 
 // count bytes of the 256 from base on, starting at the address and going on at the first past the last; $00 for each where the
 // zone may not be read.

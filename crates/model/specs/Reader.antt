@@ -18,11 +18,3 @@ partAt s i = take (recordsEnd (length s) - i) (drop i s)
 -- what the next record is
 abbrev pub nextOf : List ℕ → ℕ → Decoded Command
 nextOf s i = decode (partAt s i)
-
--- the place past it; the same place where there is none
-abbrev pub past : ℕ → Decoded Command → ℕ
-past i (refused n) = i
-past i (whole k n) = i + n
-
-abbrev pub placeAfter : List ℕ → ℕ → ℕ
-placeAfter s i = past i (nextOf s i)

@@ -1,7 +1,7 @@
-// A reader that holds the session's bytes and a place in them.
+// Records read from a session: a reader, its place, and the record there.
 ghost use mathlib.Core.Path.{_≡_};
 ghost use lib.ListN.{length};
-ghost use Rattle.model.specs.Reader.{recordsEnd, partAt, nextOf, placeAfter};
+ghost use Rattle.model.specs.Reader.{recordsEnd, partAt, nextOf};
 ghost use Rattle.record.specs.DecodedRecord.{decodedOf};
 use record::decoder::Decoded;
 use record::decoder::decode;
@@ -29,16 +29,6 @@ pub fn next_at(session: &[u8], at: usize) -> Decoded
     decode(&session[at..end])
 }
 
-// The place past the record at a place; the same place where there is none.
-pub fn place_after(session: &[u8], at: usize) -> usize
-    ensures { λ r. ⌜ r ≡ placeAfter (now (session .entry)) at ⌝ }
-{
-    match next_at(session, at) {
-        Decoded::Refused(_) => at,
-        Decoded::Whole(_, n) => at + n,
-    }
-}
-
 // A place in a session's bytes, from which records are read.
 pub struct Reader<'a> {
     pub session: &'a [u8],
@@ -58,20 +48,10 @@ impl<'a> Reader<'a> {
     {
         next_at(self.session, self.at)
     }
-
-    // The reader past that record.
-    pub fn after(self) -> Reader<'a>
-        ensures { λ r. ⌜ (r .session ≡ self .entry .session) × (r .at ≡ placeAfter (now (self .entry .session)) (self .entry .at)) ⌝ }
-    {
-        Reader {
-            session: self.session,
-            at: place_after(self.session, self.at),
-        }
-    }
 }
 
 // The record at a place, by a reader there.
-pub fn first_record(session: &[u8], at: usize) -> Decoded
+pub fn record_at(session: &[u8], at: usize) -> Decoded
     ensures { λ r. ⌜ decodedOf (partAt (now (session .entry)) at) r ≡ nextOf (now (session .entry)) at ⌝ }
 {
     Reader::new(session, at).next()

@@ -3,6 +3,8 @@ use Prim.Native.Nat.{ℕ, suc}
 use mathlib.Core.Path.{_≡_, refl}
 use Rattle.model.specs.Refusal as model
 use Rattle.record.specs.declared.refusal.Refusal.{Refusal}
+use Rattle.record.specs.declared.refusal.Outcome.{Outcome}
+use Rattle.record.specs.declared.refusal.Outcome.the-variants as outcome
 use Rattle.record.specs.declared.refusal.Refusal.the-variants as refusal
 
 abbrev pub refusalNumber : Refusal → ℕ
@@ -37,3 +39,8 @@ number-some refusal.CardLength = (10, refl)
 number-some refusal.StateOutOfRange = (11, refl)
 number-some refusal.NotALog = (12, refl)
 number-some refusal.NoSuchAnswer = (13, refl)
+
+-- the number of the refusal that a call ends with, or 0
+abbrev pub outcomeNumber : Outcome → ℕ
+outcomeNumber outcome.Accepted = 0
+outcomeNumber (outcome.Refused why) = refusalNumber why

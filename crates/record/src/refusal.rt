@@ -1,6 +1,6 @@
-// Why an input is sent back.
+// Why an input is refused, and whether one was.
 ghost use mathlib.Core.Path.{_≡_};
-ghost use Rattle.record.specs.RefusalNumber.{refusalNumber};
+ghost use Rattle.record.specs.RefusalNumber.{refusalNumber, outcomeNumber};
 
 pub enum Refusal {
     SessionLength,
@@ -38,5 +38,21 @@ pub fn number(refusal: Refusal) -> u8
         Refusal::StateOutOfRange => 12,
         Refusal::NotALog => 13,
         Refusal::NoSuchAnswer => 14,
+    }
+}
+
+// How a call ends.
+pub enum Outcome {
+    Accepted,
+    Refused(Refusal),
+}
+
+// The number of its refusal, or 0.
+pub fn outcome_number(outcome: Outcome) -> u8
+    ensures { λ r. ⌜ r ≡ outcomeNumber outcome ⌝ }
+{
+    match outcome {
+        Outcome::Accepted => 0,
+        Outcome::Refused(why) => number(why),
     }
 }

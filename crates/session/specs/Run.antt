@@ -15,7 +15,7 @@ use Rattle.laws.specs.RecordLaws.{Fields}
 use Rattle.laws.specs.Sane.{Good}
 use Rattle.model.specs.Session as model
 use Rattle.model.specs.Volatile.{Volatile, powerUp}
-use Rattle.command.specs.Reply.{outcomeNumber}
+use Rattle.record.specs.RefusalNumber.{outcomeNumber}
 use Rattle.validate.specs.Check.{entriesTotal}
 use Rattle.session.specs.declared.result.Run.{Run}
 

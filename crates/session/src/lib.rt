@@ -4,7 +4,7 @@ ghost use Rattle.model.specs.Session as model;
 ghost use Rattle.session.specs.Run.{ranOf};
 use crate::result::Run;
 use crate::write::write_log;
-use command::Outcome;
+use record::refusal::Outcome;
 use record::refusal::Refusal;
 use sizes::LEAST_LOG;
 use validate::Checked;

@@ -1,5 +1,5 @@
 // What a session gives back beside the log space.
-use command::Outcome;
+use record::refusal::Outcome;
 
 pub struct Run {
     pub outcome: Outcome,

@@ -1,46 +1,25 @@
 // A session that was checked is run on a working card, and its log written.
 ghost use mathlib.Core.Path.{_≡_};
-ghost use mathlib.Core.List.{[]};
 ghost use Rattle.model.specs.Call.{powered};
-ghost use Rattle.model.specs.Session.{kindOf};
 ghost use Rattle.access.specs.State.{volatileOf};
 ghost use Rattle.record.specs.DecodedRecord.{commandOf};
 ghost use Rattle.session.specs.Run.{EntryReady, EntryWritten, RecordsReady, RecordsRun, LogReady, LogWritten};
 use access::volatile::Volatile;
 use access::volatile::power_up;
 use carry::carry_out;
-use command::admit::answer_length;
 use log::write::put_header;
 use log::write::put_trailer;
-use memory::copy::copy;
-use reader::next_at;
+use reader::record_at;
 use reader::records_end;
 use record::decoder::Decoded;
 use record::decoder::Record;
+use record::kind::answer_length;
+use record::kind::kind_number;
 use record::number::get2;
 use record::number::get4;
 use sizes::CARD;
 use sizes::TRAILER;
-
-// The number of a record's kind.
-fn kind_number(record: Record) -> u8
-    ensures { λ r. ⌜ r ≡ kindOf (commandOf [] 0 «record») ⌝ }
-{
-    match record {
-        Record::PowerCycle => 1,
-        Record::Reset => 2,
-        Record::Select(_) => 3,
-        Record::ReadZone(_, _) => 4,
-        Record::WriteZone(_) => 5,
-        Record::ReadConfiguration(_, _) => 6,
-        Record::WriteConfiguration(_) => 7,
-        Record::ReadFuses => 8,
-        Record::WriteFuses => 9,
-        Record::VerifyPassword(_) => 10,
-        Record::BeginAuthentication => 11,
-        Record::VerifyAuthentication(_) => 12,
-    }
-}
+use slices::copy;
 
 // helper: a record carried out, and its entry written.
 fn write_entry(
@@ -71,7 +50,7 @@ fn run_records(session: &[u8], start: usize, count: usize, card: &mut [u8], log:
     let mut place = 0;
     let mut left = count;
     while 0 < left {
-        match next_at(session, at) {
+        match record_at(session, at) {
             Decoded::Refused(_) => return,
             Decoded::Whole(kind, length) => {
                 state = write_entry(&session[at..end], kind, length, card, state, log, place);

@@ -4,8 +4,8 @@ ghost use lib.ListN.{length};
 use io::read_full;
 use io::write_all;
 use listing::list;
-use memory::copy::least;
 use record::number::get4;
+use slices::least;
 
 // helper: the session between two places.
 fn list_one(input: &[u8], from: usize, to: usize)

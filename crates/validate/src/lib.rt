@@ -5,16 +5,16 @@ ghost use lib.ListN.{length};
 ghost use Rattle.model.specs.Sizes.{mostRecords};
 ghost use Rattle.model.specs.Reader.{recordsEnd};
 ghost use Rattle.model.specs.Session as model;
-ghost use Rattle.command.specs.Reply.{outcomeNumber};
+ghost use Rattle.record.specs.RefusalNumber.{outcomeNumber};
 ghost use Rattle.validate.specs.Check.{checkedOf, sizedOf, checkOf};
 use access::rights::is_fuse_byte;
-use command::Outcome;
-use command::admit::answer_length;
-use reader::next_at;
+use reader::record_at;
 use reader::records_end;
 use record::decoder::Decoded;
+use record::kind::answer_length;
 use record::number::get2;
 use record::number::get4;
+use record::refusal::Outcome;
 use record::refusal::Refusal;
 use sizes::CARD;
 use sizes::FUSES;
@@ -71,7 +71,7 @@ pub fn check_records(session: &[u8], start: usize, count: usize) -> Checked
     let mut entries = 0;
     let mut left = count;
     while 0 < left {
-        match next_at(session, at) {
+        match record_at(session, at) {
             Decoded::Refused(why) => return Checked::Refused(why),
             Decoded::Whole(kind, length) => {
                 at += length;

@@ -1,7 +1,7 @@
 -- Refused, or carried out, by what was admitted.
 use mathlib.Core.Path.{sym, ap, _∙_}
 use borrow.Author.Needs.{needs}
-use Rattle.command.specs.Alone.{answer-alone}
+use Rattle.record.specs.RecordAlone.{answer-alone}
 use Rattle.record.specs.DecodedRecord.{decodedOf}
 use Rattle.command.proofs.CommandLaws.{call-refused, ready, call-carried}
 use Rattle.command.proofs.command.Statement.{statement}

@@ -2,7 +2,7 @@
 use borrow.Author.Needs.{needs}
 use lib.Seq.{length-take-le}
 use mathlib.Core.Path.{sym, ap}
-use Rattle.command.specs.Reply.{outcomeNumber}
+use Rattle.record.specs.RefusalNumber.{outcomeNumber}
 use Rattle.text.proofs.PutLaws.{put-length}
 use Rattle.listing.proofs.ListedLaws.{list-put, refused-listing, within, log-ready, accepted-listing}
 use Rattle.listing.proofs.list.Statement.{statement}

@@ -2,7 +2,7 @@
 use mathlib.Core.Path.{sym, ap, _∙_}
 use native.Mathlib.Omega.{arith}
 use borrow.Author.Needs.{needs}
-use Rattle.command.specs.Reply.{outcomeNumber}
+use Rattle.record.specs.RefusalNumber.{outcomeNumber}
 use Rattle.properties.specs.Accepted.{framed-well}
 use Rattle.validate.proofs.SessionCheckLaws.{frame-refused, records-checked}
 use Rattle.validate.proofs.check.Statement.{statement}

@@ -2,7 +2,7 @@
 use mathlib.Core.Path.{sym, ap, _∙_}
 use native.Mathlib.Omega.{arith}
 use borrow.Author.Needs.{needs}
-use Rattle.command.specs.Alone.{answer-alone}
+use Rattle.record.specs.RecordAlone.{answer-alone}
 use Rattle.model.specs.Reader.{partAt}
 use Rattle.laws.specs.ReaderLaws.{next-within}
 use Rattle.record.specs.DecodedRecord.{decodedOf}
@@ -19,8 +19,8 @@ abbrev μ-loop : tie.MeasureT-loop
 loop-holds : tie.Need-loop-holds Inv-loop μ-loop
 loop-holds c = checking-start _ _ _
 
-next-at-requires : tie.Need-next-at-requires Inv-loop μ-loop
-next-at-requires c κs = search needs
+record-at-requires : tie.Need-record-at-requires Inv-loop μ-loop
+record-at-requires c κs = search needs
 
 enum-known-why : tie.Need-enum-known-why Inv-loop μ-loop
 enum-known-why c = search needs
@@ -30,8 +30,8 @@ returns c =
     let start = c .before .before .before .before .before .before .before in
     let the-loop = c .before .before .before .before .before .loop in
     let loop-test = c .before .before .before .before .loop-test in
-    let next-at = c .before .before .before .next-at in
-    checking-refused _ _ _ _ _ _ (the-loop .inv) (loop-test .taken) _ (sym (ap (decodedOf (partAt (start .args .session .now) (the-loop .at))) (c .before .why .given .1)) ∙ next-at .ensures)
+    let record-at = c .before .before .before .record-at in
+    checking-refused _ _ _ _ _ _ (the-loop .inv) (loop-test .taken) _ (sym (ap (decodedOf (partAt (start .args .session .now) (the-loop .at))) (c .before .why .given .1)) ∙ record-at .ensures)
 
 enum-known-kind : tie.Need-enum-known-kind Inv-loop μ-loop
 enum-known-kind c = search needs
@@ -40,8 +40,8 @@ add-at : tie.Need-add-at Inv-loop μ-loop
 add-at c =
     let start = c .before .before .before .before .before .before .before in
     let the-loop = c .before .before .before .before .before .loop in
-    let next-at = c .before .before .before .next-at in
-    let w = next-within (start .args .session .now) (the-loop .at) _ _ (sym (next-at .ensures) ∙ ap (decodedOf (partAt (start .args .session .now) (the-loop .at))) (c .before .kind .given .1)) in omega arith
+    let record-at = c .before .before .before .record-at in
+    let w = next-within (start .args .session .now) (the-loop .at) _ _ (sym (record-at .ensures) ∙ ap (decodedOf (partAt (start .args .session .now) (the-loop .at))) (c .before .kind .given .1)) in omega arith
 
 answer-length-requires : tie.Need-answer-length-requires Inv-loop μ-loop
 answer-length-requires c κs = search needs
@@ -66,9 +66,9 @@ loop-again c =
     let start = c .before .before .before .before .before .before .before .before in
     let the-loop = c .before .before .before .before .before .before .loop in
     let loop-test = c .before .before .before .before .before .loop-test in
-    let next-at = c .before .before .before .before .next-at in
+    let record-at = c .before .before .before .before .record-at in
     checking-next _ _ _ _ _ _ (the-loop .inv) (loop-test .taken) _ _ _
-    (sym (ap (decodedOf (partAt (start .args .session .now) (the-loop .at))) (c .before .before .kind .given .1)) ∙ next-at .ensures)
+    (sym (ap (decodedOf (partAt (start .args .session .now) (the-loop .at))) (c .before .before .kind .given .1)) ∙ record-at .ensures)
     (c .answer-length .ensures ∙ sym (answer-alone (partAt (start .args .session .now) (the-loop .at)) (c .before .before .kind .given .0 .1 .0) (c .before .before .kind .given .0 .0))) (omega arith)
 
 records-end-requires : tie.Need-records-end-requires Inv-loop μ-loop
@@ -91,7 +91,7 @@ check-records-spec =
     Inv-loop
     μ-loop
     loop-holds
-    next-at-requires
+    record-at-requires
     enum-known-why
     returns
     enum-known-kind

@@ -1,7 +1,7 @@
 -- Each return by what was found on the way.
 use mathlib.Core.Path.{sym, ap, _∙_}
 use borrow.Author.Needs.{needs}
-use Rattle.command.specs.Reply.{outcomeNumber}
+use Rattle.record.specs.RefusalNumber.{outcomeNumber}
 use Rattle.record.specs.DecodedRecord.{decodedOf}
 use Rattle.command.proofs.AdmitLaws.{check-refused, record-refused, left-over, no-room, is-admitted}
 use Rattle.command.proofs.admit.admit.Statement.{statement}

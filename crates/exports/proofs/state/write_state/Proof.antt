@@ -3,7 +3,7 @@ use mathlib.Core.Path.{ap}
 use native.Mathlib.Omega.{arith}
 use borrow.Author.Needs.{needs}
 use lib.ListN.{length-set}
-use Rattle.command.specs.Reply.{outcomeNumber}
+use Rattle.record.specs.RefusalNumber.{outcomeNumber}
 use Rattle.exports.proofs.StateByteLaws.{kept, rewritten}
 use Rattle.exports.proofs.state.write_state.Statement.{statement}
 use Rattle.exports.proofs.state.write_state.Tie as tie

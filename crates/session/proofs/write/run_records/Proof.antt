@@ -3,7 +3,7 @@ use mathlib.Core.Path.{sym, ap, _∙_}
 use native.Mathlib.Omega.{arith}
 use borrow.Author.Needs.{needs}
 use Rattle.access.specs.State.{volatileOf}
-use Rattle.command.specs.Alone.{answer-alone}
+use Rattle.record.specs.RecordAlone.{answer-alone}
 use Rattle.model.specs.Reader.{partAt}
 use Rattle.laws.specs.ReaderLaws.{next-within}
 use Rattle.record.specs.DecodedRecord.{decodedOf}
@@ -28,8 +28,8 @@ loop-holds c =
     let start = c .before .before .before .before .before in
     going-start _ _ _ _ _ _ (c .power-up .ensures) (start .pre)
 
-next-at-requires : tie.Need-next-at-requires Inv-loop μ-loop
-next-at-requires c κs = search needs
+record-at-requires : tie.Need-record-at-requires Inv-loop μ-loop
+record-at-requires c κs = search needs
 
 enum-told : tie.Need-enum-told Inv-loop μ-loop
 enum-told c = search needs
@@ -39,21 +39,21 @@ same-length c =
     let start = c .before .before .before .before .before .before .before .before .before .before in
     let the-loop = c .before .before .before .before .loop in
     let loop-test = c .before .before .before .loop-test in
-    absurd (going-never _ _ _ _ _ _ _ _ _ _ _ (the-loop .inv) (loop-test .taken) _ (sym (ap (decodedOf (partAt (start .args .session .now) (the-loop .at))) (c .enum-told .given .1)) ∙ c .before .before .next-at .ensures))
+    absurd (going-never _ _ _ _ _ _ _ _ _ _ _ (the-loop .inv) (loop-test .taken) _ (sym (ap (decodedOf (partAt (start .args .session .now) (the-loop .at))) (c .enum-told .given .1)) ∙ c .before .before .record-at .ensures))
 
 same-length-2 : tie.Need-same-length-2 Inv-loop μ-loop
 same-length-2 c =
     let start = c .before .before .before .before .before .before .before .before .before .before in
     let the-loop = c .before .before .before .before .loop in
     let loop-test = c .before .before .before .loop-test in
-    absurd (going-never _ _ _ _ _ _ _ _ _ _ _ (the-loop .inv) (loop-test .taken) _ (sym (ap (decodedOf (partAt (start .args .session .now) (the-loop .at))) (c .enum-told .given .1)) ∙ c .before .before .next-at .ensures))
+    absurd (going-never _ _ _ _ _ _ _ _ _ _ _ (the-loop .inv) (loop-test .taken) _ (sym (ap (decodedOf (partAt (start .args .session .now) (the-loop .at))) (c .enum-told .given .1)) ∙ c .before .before .record-at .ensures))
 
 returns : tie.Need-returns Inv-loop μ-loop
 returns c =
     let start = c .before .before .before .before .before .before .before .before .before .before in
     let the-loop = c .before .before .before .before .loop in
     let loop-test = c .before .before .before .loop-test in
-    absurd (going-never _ _ _ _ _ _ _ _ _ _ _ (the-loop .inv) (loop-test .taken) _ (sym (ap (decodedOf (partAt (start .args .session .now) (the-loop .at))) (c .enum-told .given .1)) ∙ c .before .before .next-at .ensures))
+    absurd (going-never _ _ _ _ _ _ _ _ _ _ _ (the-loop .inv) (loop-test .taken) _ (sym (ap (decodedOf (partAt (start .args .session .now) (the-loop .at))) (c .enum-told .given .1)) ∙ c .before .before .record-at .ensures))
 
 enum-known-kind : tie.Need-enum-known-kind Inv-loop μ-loop
 enum-known-kind c = search needs
@@ -73,17 +73,17 @@ write-entry-requires c κs =
     let records-end = c .before .before .before .before .before .before .before .before .before .before .records-end in
     let the-loop = c .before .before .before .before .before .before .before .before .loop in
     let loop-test = c .before .before .before .before .before .before .before .loop-test in
-    let next-at = c .before .before .before .before .before .before .next-at in
+    let record-at = c .before .before .before .before .before .before .record-at in
     let kind = c .before .before .before .before .kind in
-    rw (records-end .ensures) (going-ready _ _ _ _ _ _ _ _ _ _ _ (the-loop .inv) (loop-test .taken) _ _ (sym (ap (decodedOf (partAt (start .args .session .now) (the-loop .at))) (kind .given .1)) ∙ next-at .ensures))
+    rw (records-end .ensures) (going-ready _ _ _ _ _ _ _ _ _ _ _ (the-loop .inv) (loop-test .taken) _ _ (sym (ap (decodedOf (partAt (start .args .session .now) (the-loop .at))) (kind .given .1)) ∙ record-at .ensures))
 
 add-at : tie.Need-add-at Inv-loop μ-loop
 add-at c =
     let start = c .before .before .before .before .before .before .before .before .before .before .before .before .before .before .before .before .before .before .before in
     let the-loop = c .before .before .before .before .before .before .before .before .before .before .before .before .before .loop in
-    let next-at = c .before .before .before .before .before .before .before .before .before .before .before .next-at in
+    let record-at = c .before .before .before .before .before .before .before .before .before .before .before .record-at in
     let kind = c .before .before .before .before .before .before .before .before .before .kind in
-    let w = next-within (start .args .session .now) (the-loop .at) _ _ (sym (next-at .ensures) ∙ ap (decodedOf (partAt (start .args .session .now) (the-loop .at))) (kind .given .1)) in omega arith
+    let w = next-within (start .args .session .now) (the-loop .at) _ _ (sym (record-at .ensures) ∙ ap (decodedOf (partAt (start .args .session .now) (the-loop .at))) (kind .given .1)) in omega arith
 
 answer-length-requires : tie.Need-answer-length-requires Inv-loop μ-loop
 answer-length-requires c κs = search needs
@@ -99,9 +99,9 @@ add-place-2 c =
     let start = c .before .before .before .before .before .before .before .before .before .before .before .before .before .before .before .before .before .before .before .before in
     let the-loop = c .before .before .before .before .before .before .before .before .before .before .before .before .before .before .loop in
     let loop-test = c .before .before .before .before .before .before .before .before .before .before .before .before .before .loop-test in
-    let next-at = c .before .before .before .before .before .before .before .before .before .before .before .before .next-at in
+    let record-at = c .before .before .before .before .before .before .before .before .before .before .before .before .record-at in
     let kind = c .before .before .before .before .before .before .before .before .before .before .kind in
-    let r = going-ready _ _ _ _ _ _ _ _ _ _ _ (the-loop .inv) (loop-test .taken) _ _ (sym (ap (decodedOf (partAt (start .args .session .now) (the-loop .at))) (kind .given .1)) ∙ next-at .ensures) .room in
+    let r = going-ready _ _ _ _ _ _ _ _ _ _ _ (the-loop .inv) (loop-test .taken) _ _ (sym (ap (decodedOf (partAt (start .args .session .now) (the-loop .at))) (kind .given .1)) ∙ record-at .ensures) .room in
     let a = c .answer-length .ensures ∙ sym (answer-alone (partAt (start .args .session .now) (the-loop .at)) (kind .given .0 .1 .0) (kind .given .0 .0)) in
     let l = the-loop .inv .long in let b = start .good .1 .1 .1 .1 .0 .0 in omega arith
 
@@ -117,10 +117,10 @@ loop-again c =
     let records-end = c .before .before .before .before .before .before .before .before .before .before .before .before .before .before .before .before .records-end in
     let the-loop = c .before .before .before .before .before .before .before .before .before .before .before .before .before .before .loop in
     let loop-test = c .before .before .before .before .before .before .before .before .before .before .before .before .before .loop-test in
-    let next-at = c .before .before .before .before .before .before .before .before .before .before .before .before .next-at in
+    let record-at = c .before .before .before .before .before .before .before .before .before .before .before .before .record-at in
     let kind = c .before .before .before .before .before .before .before .before .before .before .kind in
     let write-entry = c .before .before .before .before .before .write-entry in
-    going-next _ _ _ _ _ _ _ _ _ _ _ (the-loop .inv) (loop-test .taken) _ _ (sym (ap (decodedOf (partAt (start .args .session .now) (the-loop .at))) (kind .given .1)) ∙ next-at .ensures) _ _ _ _
+    going-next _ _ _ _ _ _ _ _ _ _ _ (the-loop .inv) (loop-test .taken) _ _ (sym (ap (decodedOf (partAt (start .args .session .now) (the-loop .at))) (kind .given .1)) ∙ record-at .ensures) _ _ _ _
     (c .answer-length .ensures ∙ sym (answer-alone (partAt (start .args .session .now) (the-loop .at)) (kind .given .0 .1 .0) (kind .given .0 .0))) (rw (records-end .ensures) at (write-entry .ensures))
 
 same-length-3 : tie.Need-same-length-3 Inv-loop μ-loop
@@ -143,7 +143,7 @@ run-records-spec =
     records-end-requires
     power-up-requires
     loop-holds
-    next-at-requires
+    record-at-requires
     enum-told
     same-length
     same-length-2

@@ -1,7 +1,7 @@
 -- The entry's header, then its response, each in its place.
 use mathlib.Core.Path.{refl, sym, _∙_}
 use borrow.Author.Needs.{needs}
-use Rattle.command.specs.Alone.{answer-alone, kind-alone}
+use Rattle.record.specs.RecordAlone.{answer-alone, kind-alone}
 use Rattle.session.proofs.SessionWriteLaws.{entry-ready, entry-written}
 use Rattle.session.proofs.write.write_entry.Statement.{statement}
 use Rattle.session.proofs.write.write_entry.Tie as tie

@@ -6,8 +6,8 @@ use mathlib.Core.List.{_++_}
 use mathlib.Core.Path.{_≡_, refl}
 use Rattle.model.specs.Lists.{tab}
 use Rattle.laws.specs.Loops.{tab-start, tab-next, tab-done}
-use Rattle.memory.proofs.copy.clear.Statement.{statement}
-use Rattle.memory.proofs.copy.clear.Tie as tie
+use Rattle.slices.proofs.clear.Statement.{statement}
+use Rattle.slices.proofs.clear.Tie as tie
 
 abbrev Inv-loop : tie.InvT-loop
 Inv-loop to₀ count at₀ to at = (at ≤ count) × (length to ≡ length to₀) × (to ≡ tab (λ k. 0) at ++ drop at to₀)

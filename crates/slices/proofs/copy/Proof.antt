@@ -1,9 +1,9 @@
 -- What is known when i bytes are copied is `Copying`.
 use Prim.Native.Nat.{_-_}
 use borrow.Author.Needs.{needs}
-use Rattle.memory.proofs.CopyLaws.{Copying, copying-start, copying-next, copying-done}
-use Rattle.memory.proofs.copy.copy.Statement.{statement}
-use Rattle.memory.proofs.copy.copy.Tie as tie
+use Rattle.slices.proofs.CopyLaws.{Copying, copying-start, copying-next, copying-done}
+use Rattle.slices.proofs.copy.Statement.{statement}
+use Rattle.slices.proofs.copy.Tie as tie
 
 abbrev Inv-loop : tie.InvT-loop
 Inv-loop to₀ at from start count i₀ to i = Copying to₀ at from start count i to

@@ -1,4 +1,4 @@
-// Runs of bytes.
+// Runs of bytes in slices: copied, made $00; and the lesser of two lengths.
 ghost use mathlib.Core.Path.{_≡_};
 ghost use mathlib.Core.List.{_++_};
 ghost use Prim.Native.Nat.{_+_, _≤_, min};
