@@ -1,9 +1,10 @@
 -- The listing of a session, and of a log as it stands in memory.
-use Prim.Native.Nat.{ℕ, zero, suc, _+_, min}
+use Prim.Native.Nat.{ℕ, zero, suc, _+_, _≤_, min}
 use mathlib.Core.List.{List, [], _++_}
-use lib.ListN.{length, take, drop}
+use mathlib.Core.Path.{_≡_}
+use lib.ListN.{length, take, drop, replicate}
 use lib.Seq.{sets}
-use Rattle.model.specs.Sizes.{fuseAt}
+use Rattle.model.specs.Sizes.{fuseAt, printingSpace}
 use Rattle.model.specs.Lists.{at}
 use Rattle.model.specs.Command.{Command}
 use Rattle.model.specs.Log.{countOf, offsetOf, lengthAt, nextEntry}
@@ -37,6 +38,16 @@ pub record Listed : Type 0 where
 
 abbrev pub listIn : List ℕ → List ℕ → List ℕ → Listed
 listIn s log text = record { size = min (length (listing s log)) (length text); log = run s log .space; text = sets text 0 (listing s log) }
+
+-- what the program prints of a session: its listing, with the program's log space
+abbrev pub printed : List ℕ → List ℕ
+printed s = listing s (replicate printingSpace 0)
+
+-- the call gives back its length; it stands whole at the front of the text space, whose other bytes are kept
+pub record Printed (s text : List ℕ) (size : ℕ) (text′ : List ℕ) : Type 0 where
+  pub whole : size ≡ length (printed s)
+  pub within : size ≤ length text′
+  pub bytes : text′ ≡ sets text 0 (printed s)
 
 -- ---- by places in a log
 

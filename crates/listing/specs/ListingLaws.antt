@@ -45,10 +45,3 @@ listing-length es card l w =
     let b = log-length es card l w in
     let c = ap length (log-listed es card l w) ∙ length-append (lines 0 es) (fusesLine (at card fuseAt)) in
     omega arith
-
--- what is given back lies within the text space
-pub text-within : (s log text : List ℕ) (r : Listed) → r ≡ listIn s log text → r .size ≤ length (r .text)
-text-within s log text r e =
-    let a = ap (λ (x : Listed). x .size) e in
-    let b = ap (λ (x : Listed). length (x .text)) e ∙ length-sets text 0 (listing s log) in
-    omega arith

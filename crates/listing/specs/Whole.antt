@@ -1,9 +1,11 @@
 -- Every listing fits: a text space of three times the log space has room for it, whole.
 use Prim.Native.Nat.{ℕ, zero, suc, _+_, _*_, _≤_, _<_}
 use mathlib.Core.List.{List, [], _∷_, _++_}
-use mathlib.Core.Path.{_≡_, refl, sym}
+use mathlib.Core.Path.{_≡_, refl, sym, ap, _∙_}
 use native.Mathlib.Omega.{arith}
-use lib.ListN.{length, length-append}
+use lib.ListN.{length, replicate, length-append, length-replicate}
+use lib.Seq.{length-sets}
+use Rattle.model.specs.Sizes.{printingSpace}
 use Rattle.model.specs.Lists.{Bytes}
 use Rattle.laws.specs.BoolLaws.{choice}
 use Rattle.model.specs.Reader.{partAt}
@@ -14,7 +16,7 @@ use Rattle.properties.specs.Conditions.{Condition, recordConditions, recordsCon
 use Rattle.properties.specs.ReadBack.{laid-out}
 use Rattle.text.specs.Text.{decimal}
 use Rattle.text.specs.TextLaws.{decimal-few}
-use Rattle.listing.specs.Listing.{listing, logLines}
+use Rattle.listing.specs.Listing.{listing, Listed, listIn, printed, Printed, logLines}
 use Rattle.listing.specs.ListingLaws.{log-listed, listing-length}
 
 -- ---- no refusal of a session has more than four digits
@@ -61,3 +63,14 @@ listing-fits s log bytes room = go (run s log .refusal) refl
         let d = decimal-few (suc n) s in
         let a = length-append (decimal (suc n)) (0x0A ∷ []) in
         rw e (omega arith)
+
+-- so what the program prints is whole in a text space of three times its log space
+pub printed-whole : (s text log′ text′ : List ℕ) (r : ℕ) → Bytes s → length text ≡ 3 * printingSpace
+    → record { size = r; log = log′; text = text′ } ≡ listIn s (replicate printingSpace 0) text
+    → Printed s text r text′
+printed-whole s text log′ text′ r bytes l e =
+    let f = listing-fits s (replicate printingSpace 0) bytes (rw (length-replicate {A = ℕ} printingSpace 0) (omega arith)) in
+    let g = length-replicate {A = ℕ} printingSpace 0 in
+    let a = ap (λ (x : Listed). x .size) e in
+    let b = ap (λ (x : Listed). length (x .text)) e ∙ length-sets text 0 (printed s) in
+    record { whole = omega arith; within = omega arith; bytes = ap (λ (x : Listed). x .text) e }

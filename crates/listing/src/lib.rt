@@ -1,10 +1,13 @@
 // Listings: a session is run, and what an examiner reads of its log is written as text.
 ghost use mathlib.Core.Path.{_≡_};
 ghost use Rattle.listing.specs.Listing as model;
+ghost use Rattle.listing.specs.Listing.{Printed};
 use crate::lines::put_log;
 use crate::lines::put_refusal;
 use record::refusal::Outcome;
 use session::run;
+use sizes::LOG_SPACE;
+use sizes::TEXT_SPACE;
 use slices::least;
 
 pub mod lines;
@@ -21,4 +24,12 @@ pub fn list(session: &[u8], log: &mut [u8], text: &mut [u8]) -> usize
         Outcome::Refused(why) => least(put_refusal(text, why), room),
         Outcome::Accepted => least(put_log(text, &log[..length]), room),
     }
+}
+
+// What the program prints of a session, at the front of the text space: the whole listing, run in a log space of its own.
+pub fn print(session: &[u8], text: &mut [u8; TEXT_SPACE]) -> usize
+    ensures { λ r. ⌜ Printed (now (session .entry)) (now (text .entry)) r (now (text .exit)) ⌝ }
+{
+    let mut log = [0u8; LOG_SPACE];
+    list(session, &mut log, text)
 }

@@ -25,3 +25,7 @@ leastLog = cardSize + trailerSize
 
 abbrev pub mostRecords : ℕ
 mostRecords = 4096
+
+-- the log space of the printing program
+abbrev pub printingSpace : ℕ
+printingSpace = 65536

@@ -1,14 +1,14 @@
 // A session from standard input, run, and its listing on standard output.
 use io::read_full;
 use io::write_all;
-use listing::list;
+use listing::print;
+use sizes::INPUT;
+use sizes::TEXT_SPACE;
 
 fn main() {
-    // One byte more than a session may have, so that a longer input is seen to be longer.
-    let mut session = [0u8; 65537];
-    let read = read_full(0, &mut session);
-    let mut log = [0u8; 65536];
-    let mut text = [0u8; 196608];
-    let written = list(&session[..read], &mut log, &mut text);
+    let mut input = [0u8; INPUT];
+    let read = read_full(0, &mut input);
+    let mut text = [0u8; TEXT_SPACE];
+    let written = print(&input[..read], &mut text);
     write_all(1, &text[..written]);
 }

@@ -26,3 +26,11 @@ pub const GREATEST_SESSION: usize = 65536;
 pub const LEAST_LOG: usize = CARD + TRAILER;
 
 pub const MOST_RECORDS: usize = 4096;
+
+// What the printing program reads, a byte more than a session may have, so that a longer input is seen to be longer; its log space;
+// and a text space that always has room for the whole listing.
+pub const INPUT: usize = GREATEST_SESSION + 1;
+
+pub const LOG_SPACE: usize = 65536;
+
+pub const TEXT_SPACE: usize = 3 * LOG_SPACE;

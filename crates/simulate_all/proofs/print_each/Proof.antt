@@ -1,8 +1,8 @@
 -- The place moves on by four bytes at least.
 use Prim.Native.Nat.{_≤_, _-_}
 use borrow.Author.Needs.{needs}
-use Rattle.simulate_all.proofs.list_each.Statement.{statement}
-use Rattle.simulate_all.proofs.list_each.Tie as tie
+use Rattle.simulate_all.proofs.print_each.Statement.{statement}
+use Rattle.simulate_all.proofs.print_each.Tie as tie
 
 abbrev Inv-loop : tie.InvT-loop
 Inv-loop input length at₀ at = at ≤ length
@@ -31,8 +31,8 @@ least-requires c κs = search needs
 add-to : tie.Need-add-to Inv-loop μ-loop
 add-to c = search needs
 
-list-one-requires : tie.Need-list-one-requires Inv-loop μ-loop
-list-one-requires c κs = search needs
+print-one-requires : tie.Need-print-one-requires Inv-loop μ-loop
+print-one-requires c κs = search needs
 
 loop-less : tie.Need-loop-less Inv-loop μ-loop
 loop-less c = search needs
@@ -43,8 +43,8 @@ loop-again c = search needs
 returns : tie.Need-returns Inv-loop μ-loop
 returns c = search needs
 
-pub list-each-spec : {M : Type 1} → statement M
-list-each-spec =
+pub print-each-spec : {M : Type 1} → statement M
+print-each-spec =
     tie.close
     (tie.spec
     Inv-loop
@@ -56,7 +56,7 @@ list-each-spec =
     sub-least
     least-requires
     add-to
-    list-one-requires
+    print-one-requires
     loop-less
     loop-again
     returns)
