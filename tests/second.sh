@@ -12,7 +12,10 @@ cargo build --release --offline --quiet --bin sessions --bin listings --bin writ
 building=$!
 (cd "$top" && rt staticlib exports) >"$work/log" 2>&1 || { tail -n 20 "$work/log" >&2; exit 1; }
 wait "$building"
-cargo test --release --offline --quiet
+cargo test --release --offline --color never --lib --test '*' >"$work/log" 2>&1 || { cat "$work/log" >&2; exit 1; }
+# A line for each file of tests: where it is and how its tests ended.
+awk '$1 == "Running" { file = $2 == "unittests" ? $3 : $2 }
+    /^test result: / { sub(/; 0 ignored.*/, ""); sub(/^test result: /, ""); print "second: " file ": " $0 }' "$work/log"
 "$programs/sessions" | cmp - "$top/crates/simulate_all/stdin"
 "$programs/listings" <"$top/crates/simulate_all/stdin" | cmp - "$top/crates/simulate_all/stdout"
 mkdir "$work/examples"

@@ -1,6 +1,7 @@
 //! Puts sessions together: a card, free text, records and the trailer.
 
-use crate::card::{self, AAC, CARD, CONFIGURATION, FUSES, REGISTERS};
+use crate::card;
+use crate::layout::{AAC, CARD, CONFIGURATION, FUSES, REGISTERS, TRAILER, ZONE, ZONES};
 use crate::session;
 use crate::volatile::Password;
 
@@ -36,9 +37,9 @@ pub fn fresh_card(fuses: u8) -> Vec<u8> {
     card
 }
 
-/// The eight bytes that end a session.
-pub fn trailer(start: usize, count: u16) -> [u8; 8] {
-    let mut bytes = [0; 8];
+/// The bytes that end a session.
+pub fn trailer(start: usize, count: u16) -> [u8; TRAILER] {
+    let mut bytes = [0; TRAILER];
     bytes[..4].copy_from_slice(&(start as u32).to_le_bytes());
     bytes[4..6].copy_from_slice(&count.to_le_bytes());
     bytes[6..].copy_from_slice(&session::MARK);
@@ -60,7 +61,7 @@ impl Author {
     }
 
     pub fn put_zone(self, zone: usize, address: usize, bytes: &[u8]) -> Author {
-        self.put(card::ZONE * zone + address, bytes)
+        self.put(ZONE * zone + address, bytes)
     }
 
     pub fn put_configuration(self, address: usize, bytes: &[u8]) -> Author {
@@ -162,7 +163,7 @@ impl Author {
     }
 
     pub fn each_zone(self, step: impl Fn(Author, u8) -> Author) -> Author {
-        (0..8).fold(self, step)
+        (0..ZONES as u8).fold(self, step)
     }
 
     pub fn session(self) -> Vec<u8> {

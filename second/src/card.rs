@@ -1,21 +1,12 @@
 //! The card's bytes, and what each command does to them and to the volatile state.
 
 use crate::access::{Configuration, Register, Stage};
+use crate::layout::{AAC, CARD, CONFIGURATION, CRYPTOGRAM, FUSES, PAGE, REGISTERS, ZONE};
 use crate::record::Record;
 use crate::volatile::{Authentication, Password, Volatile, Zone};
 
-/// How many bytes a card has: eight zones, the configuration, the fuse byte.
-pub const CARD: usize = 2177;
-
+/// Eight zones, the configuration, the fuse byte.
 pub type Card = [u8; CARD];
-
-pub const ZONE: usize = 256;
-pub const PAGE: usize = 16;
-pub const CONFIGURATION: usize = 8 * ZONE;
-pub const FUSES: usize = CARD - 1;
-pub const REGISTERS: usize = CONFIGURATION + 0x10;
-pub const AAC: usize = CONFIGURATION + 0x20;
-pub const CRYPTOGRAM: usize = CONFIGURATION + 0x28;
 
 /// Where the attempts counter of a password lies; its three bytes follow.
 pub fn counter(password: Password) -> usize {

@@ -1,7 +1,8 @@
 //! A single command on a lent card, with all that can be refused.
 
 use crate::access::Stage;
-use crate::card::{self, Card, FUSES};
+use crate::card::{self, Card};
+use crate::layout::FUSES;
 use crate::record;
 use crate::refusal::Refusal;
 use crate::volatile::Volatile;

@@ -2,11 +2,6 @@
 
 use crate::author::{password, Author};
 
-pub struct Example {
-    pub name: &'static str,
-    pub session: Vec<u8>,
-}
-
 /// The paper's printed example, without free text.
 pub fn printed() -> Author {
     Author::new(6).put_configuration(0x38, &[0xA5, 0x5A]).read_fuses().read_configuration(0x38, 2)
@@ -108,7 +103,8 @@ fn wrap() -> Author {
         .read(0x20, 1)
 }
 
-pub fn all() -> Vec<Example> {
+/// Names and sessions.
+pub fn all() -> Vec<(&'static str, Vec<u8>)> {
     let paper = printed().text(b"The example printed in the paper.\n");
     [
         ("paper", paper),
@@ -118,6 +114,6 @@ pub fn all() -> Vec<Example> {
         ("refused", refused()),
         ("wrap", wrap()),
     ]
-    .map(|(name, author)| Example { name, session: author.session() })
+    .map(|(name, author)| (name, author.session()))
     .into()
 }

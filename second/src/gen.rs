@@ -4,9 +4,11 @@
 //! and locked doors are opened often enough to reach deep states.
 
 use crate::author::{counter, trailer};
-use crate::card::{self, AAC, CARD, CONFIGURATION, FUSES, REGISTERS};
 use crate::command::command;
-use crate::session::{LONGEST, SHORTEST};
+use crate::layout::{
+    AAC, CARD, CONFIGURATION, FUSES, LONGEST_SESSION, MOST_RECORDS, REGISTERS, SHORTEST_LOG,
+    SHORTEST_SESSION, TRAILER, ZONE, ZONES,
+};
 
 /// Splitmix64.
 pub struct Rng(u64);
@@ -56,7 +58,7 @@ pub fn card(rng: &mut Rng) -> Vec<u8> {
     let mut card = rng.bytes(CARD);
     card[FUSES] = rng.pick(&[7, 6, 4, 0, 0]);
     let shared_set = rng.chance(30).then(|| rng.byte() & 0x1C);
-    for zone in 0..8 {
+    for zone in 0..ZONES {
         let any = rng.byte();
         let one_switch = !(1 << rng.pick(&[0, 1, 5, 6, 7]));
         let register = rng.pick(&[any, any, any | 0x20, any | 0x22, 0xFF, one_switch]);
@@ -256,10 +258,10 @@ pub fn session(rng: &mut Rng, records: usize) -> Vec<u8> {
     let mut count = 0;
     while count < records {
         let record = record(rng, &card, &state);
-        if session.len() + record.len() + 8 > LONGEST {
+        if session.len() + record.len() + TRAILER > LONGEST_SESSION {
             break;
         }
-        let done = command(&mut card, &mut state, &record, &mut [0; card::ZONE]);
+        let done = command(&mut card, &mut state, &record, &mut [0; ZONE]);
         debug_assert!(done.is_ok());
         session.extend_from_slice(&record);
         count += 1;
@@ -269,7 +271,7 @@ pub fn session(rng: &mut Rng, records: usize) -> Vec<u8> {
 }
 
 fn set_trailer(session: &mut [u8], start: u32, count: u16) {
-    let at = session.len() - 8;
+    let at = session.len() - TRAILER;
     session[at..at + 4].copy_from_slice(&start.to_le_bytes());
     session[at + 4..at + 6].copy_from_slice(&count.to_le_bytes());
 }
@@ -278,28 +280,32 @@ fn set_trailer(session: &mut [u8], start: u32, count: u16) {
 pub fn damaged_session(rng: &mut Rng, session: &[u8]) -> Vec<u8> {
     let mut bytes = session.to_vec();
     damage(rng, &mut bytes);
-    while bytes.len() >= SHORTEST && rng.chance(25) {
+    while bytes.len() >= SHORTEST_SESSION && rng.chance(25) {
         damage(rng, &mut bytes);
     }
     bytes
 }
 
 fn damage(rng: &mut Rng, bytes: &mut Vec<u8>) {
-    let end = bytes.len() - 8;
+    let end = bytes.len() - TRAILER;
     let start = u32::from_le_bytes([bytes[end], bytes[end + 1], bytes[end + 2], bytes[end + 3]]);
     let count = u16::from_le_bytes([bytes[end + 4], bytes[end + 5]]);
     let records = end.saturating_sub(start as usize);
     match rng.below(12) {
         0 => bytes.truncate(rng.below(bytes.len())),
-        1 => bytes.resize(rng.pick(&[0, 7, 8, SHORTEST - 1, LONGEST + 1, 70_000]), 0),
+        1 => {
+            let (short, long) = (SHORTEST_SESSION - 1, LONGEST_SESSION + 1);
+            bytes.resize(rng.pick(&[0, TRAILER - 1, TRAILER, short, long, 70_000]), 0);
+        }
         2 => bytes[end + 6 + rng.below(2)] ^= 1 << rng.below(8),
         3 => {
             let far = end as u32 + 1;
-            let start = rng.pick(&[0, 2176, far, far + 7, start ^ 0x1_0000, start | 1 << 31]);
+            let low = CARD as u32 - 1;
+            let start = rng.pick(&[0, low, far, far + 7, start ^ 0x1_0000, start | 1 << 31]);
             set_trailer(bytes, start, count);
         }
         4 => {
-            let many = rng.pick(&[4097, 4098, 0x8000, 0xFFFF]);
+            let many = rng.pick(&[MOST_RECORDS + 1, MOST_RECORDS + 2, 0x8000, 0xFFFF]);
             set_trailer(bytes, start, many);
         }
         5 => bytes[FUSES] = rng.pick(&[1, 2, 3, 5, 8, 15, 0x87, 0x80, 255]),
@@ -324,13 +330,13 @@ fn damage(rng: &mut Rng, bytes: &mut Vec<u8>) {
 /// A log with something wrong; now and then it is sound all the same.
 pub fn damaged_log(rng: &mut Rng, log: &[u8]) -> Vec<u8> {
     let mut bytes = log.to_vec();
-    let card_at = bytes.len() - SHORTEST;
+    let card_at = bytes.len() - SHORTEST_LOG;
     match rng.below(7) {
         0 => bytes.truncate(rng.below(bytes.len())),
         1 => bytes.extend(rng.bytes(1)),
         2 => bytes[card_at + FUSES] = rng.byte(),
         3 => {
-            let at = bytes.len() - 1 - rng.below(8);
+            let at = bytes.len() - 1 - rng.below(TRAILER);
             bytes[at] ^= 1 << rng.below(8);
         }
         4 => {

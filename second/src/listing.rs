@@ -1,22 +1,33 @@
 //! The text that the printing program gives for a session.
 
 use std::fmt::Write;
+use std::path::Path;
+use std::{fs, io};
 
+use crate::layout::{LOG_SPACE, LONGEST_SESSION};
 use crate::log::Log;
 use crate::refusal::Refusal;
-use crate::session::{self, LONGEST};
-
-/// The log space of the printing program.
-pub const LOG_SPACE: usize = 65_536;
+use crate::session;
 
 /// The most bytes that are worth reading: one more than a session may have.
-pub const READ_LIMIT: usize = LONGEST + 1;
+pub const READ_LIMIT: usize = LONGEST_SESSION + 1;
 
 pub fn listing(session: &[u8]) -> String {
     let mut log = vec![0; LOG_SPACE];
     session::run(session, &mut log)
         .and_then(|length| lines(&log[..length]))
         .unwrap_or_else(|refusal| format!("refused {}\n", refusal.number()))
+}
+
+/// Writes each of some named sessions, and its listing beside it, into a directory.
+pub fn write_into(directory: &Path, sessions: &[(&str, Vec<u8>)]) -> io::Result<()> {
+    fs::create_dir_all(directory)?;
+    for (name, session) in sessions {
+        let file = directory.join(name);
+        fs::write(file.with_extension("session"), session)?;
+        fs::write(file.with_extension("txt"), listing(session))?;
+    }
+    Ok(())
 }
 
 fn lines(log: &[u8]) -> Result<String, Refusal> {

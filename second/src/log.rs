@@ -3,13 +3,9 @@
 use std::ops::Range;
 
 use crate::access::Stage;
-use crate::card::{CARD, FUSES};
+use crate::layout::{CARD, ENTRY_HEADER, FUSES, MOST_RECORDS, TRAILER};
 use crate::refusal::Refusal;
-use crate::session::MOST_RECORDS;
 
-/// Kind and response length before each response.
-pub const ENTRY_HEADER: usize = 3;
-pub const TRAILER: usize = 8;
 pub const MARK: [u8; 2] = [0x4C, 0x4F];
 
 pub fn write_trailer(trailer: &mut [u8], card_at: usize, count: u16) {

@@ -1,5 +1,6 @@
 //! The twelve kinds of records, and reading them from bytes.
 
+use crate::layout::TRAILER;
 use crate::refusal::Refusal;
 use crate::volatile::{Password, Zone};
 
@@ -142,7 +143,7 @@ impl<'a> Reader<'a> {
 
     /// Reads the record at the place and moves behind it; a refusal moves nothing.
     pub fn next_record(&mut self) -> Result<Record<'a>, Refusal> {
-        let end = self.session.len().saturating_sub(8);
+        let end = self.session.len().saturating_sub(TRAILER);
         let rest = self.session.get(self.at..end).unwrap_or(&[]);
         let (record, length) = decode(rest)?;
         self.at += length;

@@ -2,9 +2,11 @@
 //! of access, in a fixed order.
 
 use crate::author::{counter, fresh_card, password, trailer, Author};
-use crate::card::{CARD, CONFIGURATION};
 use crate::examples;
-use crate::session::{LONGEST, SHORTEST};
+use crate::layout::{
+    CARD, CONFIGURATION, ENTRY_HEADER, LOG_SPACE, LONGEST_SESSION, MOST_RECORDS, SHORTEST_LOG,
+    SHORTEST_SESSION, ZONE,
+};
 
 const STAGES: [u8; 4] = [7, 6, 4, 0];
 
@@ -250,7 +252,7 @@ fn accepted() -> Vec<Author> {
         nearly_right(),
         kept_and_lost(),
         still_granted(),
-        Author::new(4).times(4096, Author::power),
+        Author::new(4).times(MOST_RECORDS.into(), Author::power),
         Author::new(0).reset().select(7).reset().read(0, 0),
         Author::new(0).read(0xFF, 0).read(0xFE, 3).read(0, 1),
         Author::new(7).write(0x1E, &[1, 2, 3, 4]).read(0x0F, 18),
@@ -266,14 +268,14 @@ fn refused() -> Vec<Vec<u8>> {
     let one = |bytes: &[u8]| raw(6, bytes, CARD, 1);
     vec![
         Vec::new(),
-        empty[..SHORTEST - 1].to_vec(),
-        Author::new(7).text(&vec![b'.'; LONGEST + 1 - SHORTEST]).session(),
+        empty[..SHORTEST_SESSION - 1].to_vec(),
+        Author::new(7).text(&vec![b'.'; LONGEST_SESSION + 1 - SHORTEST_SESSION]).session(),
         changed(empty.clone(), 2, 0x45),
         changed(empty.clone(), 1, 0x53),
         raw(7, &[], CARD - 1, 0),
         raw(7, &[8], CARD + 2, 0),
         changed(empty.clone(), 5, 1),
-        raw(5, &[], CARD, 4097),
+        raw(5, &[], CARD, MOST_RECORDS + 1),
         raw(5, &[8], CARD, 1),
         raw(8, &[8], CARD, 1),
         one(&[0]),
@@ -301,20 +303,21 @@ fn refused() -> Vec<Vec<u8>> {
     ]
 }
 
-/// A session whose log has the given length, a little above 65,400.
+/// A session whose log has the given length: whole zones are read, then what is left.
 fn logging(length: usize) -> Vec<u8> {
-    // 244 reads of 256 and one shorter, each behind three bytes.
-    let last = length - 2_185 - 244 * 259 - 3;
-    Author::new(7).times(244, |a| a.read(0, 0)).read(0, last as u8).session()
+    let entries = length - SHORTEST_LOG;
+    let whole = ENTRY_HEADER + ZONE;
+    let last = entries % whole - ENTRY_HEADER;
+    Author::new(7).times(entries / whole, |a| a.read(0, 0)).read(0, last as u8).session()
 }
 
 pub fn all() -> Vec<Vec<u8>> {
     let mut all: Vec<Vec<u8>> = accepted().into_iter().map(Author::session).collect();
-    all.push(logging(65_536));
-    all.push(logging(65_537));
+    all.push(logging(LOG_SPACE));
+    all.push(logging(LOG_SPACE + 1));
     all.push(
         Author::new(0)
-            .text(&vec![b'-'; LONGEST - SHORTEST - 6])
+            .text(&vec![b'-'; LONGEST_SESSION - SHORTEST_SESSION - 6])
             .verify(3, password(3))
             .read_fuses()
             .session(),

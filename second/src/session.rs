@@ -1,16 +1,16 @@
 //! A whole session: checked first, then run into its log.
 
 use crate::access::Stage;
-use crate::card::{self, Card, CARD, FUSES};
+use crate::card::{self, Card};
+use crate::layout::{
+    CARD, ENTRY_HEADER, FUSES, LONGEST_SESSION, MOST_RECORDS, SHORTEST_LOG, SHORTEST_SESSION,
+    TRAILER,
+};
 use crate::log;
 use crate::record::Reader;
 use crate::refusal::Refusal;
 use crate::volatile::Volatile;
 
-pub const TRAILER: usize = 8;
-pub const SHORTEST: usize = CARD + TRAILER;
-pub const LONGEST: usize = 65_536;
-pub const MOST_RECORDS: u16 = 4096;
 pub const MARK: [u8; 2] = [0x53, 0x45];
 
 /// What the check of a session finds.
@@ -23,7 +23,7 @@ pub struct Checked {
 
 /// Checks a session whole, its records included.
 pub fn check(session: &[u8]) -> Result<Checked, Refusal> {
-    if !(SHORTEST..=LONGEST).contains(&session.len()) {
+    if !(SHORTEST_SESSION..=LONGEST_SESSION).contains(&session.len()) {
         return Err(Refusal::SessionLength);
     }
     let end = session.len() - TRAILER;
@@ -43,19 +43,19 @@ pub fn check(session: &[u8]) -> Result<Checked, Refusal> {
     let mut reader = Reader::new(session, start);
     let mut entries = 0;
     for _ in 0..count {
-        entries += log::ENTRY_HEADER + reader.next_record()?.response_length();
+        entries += ENTRY_HEADER + reader.next_record()?.response_length();
     }
     if reader.at() != end {
         return Err(Refusal::BytesLeft);
     }
-    Ok(Checked { start, count, log_length: entries + CARD + log::TRAILER })
+    Ok(Checked { start, count, log_length: entries + SHORTEST_LOG })
 }
 
 /// Runs a session and answers how many bytes of `log` it wrote.
 pub fn run(session: &[u8], log: &mut [u8]) -> Result<usize, Refusal> {
     let Checked { start, count, log_length } = check(session)?;
     let log = log.get_mut(..log_length).ok_or(Refusal::Space)?;
-    let card_at = log_length - log::TRAILER - CARD;
+    let card_at = log_length - SHORTEST_LOG;
     let (mut entries, rest) = log.split_at_mut(card_at);
     let (card, trailer) = rest.split_at_mut(CARD);
     card.copy_from_slice(&session[..CARD]);
@@ -66,8 +66,8 @@ pub fn run(session: &[u8], log: &mut [u8]) -> Result<usize, Refusal> {
     for _ in 0..count {
         let record = reader.next_record()?;
         let length = record.response_length();
-        let (entry, after) = entries.split_at_mut(log::ENTRY_HEADER + length);
-        let (header, response) = entry.split_at_mut(log::ENTRY_HEADER);
+        let (entry, after) = entries.split_at_mut(ENTRY_HEADER + length);
+        let (header, response) = entry.split_at_mut(ENTRY_HEADER);
         let [low, high] = (length as u16).to_le_bytes();
         header.copy_from_slice(&[record.kind(), low, high]);
         card::execute(card, &mut state, &record, response);

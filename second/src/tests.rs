@@ -1,14 +1,19 @@
 //! What the paper says in so many words: cases A–L, the edges, the printed example, each refusal
 //! by its number, and the mistakes that are easily made.
 
+use std::collections::HashMap;
+
 use crate::author::{counter, fresh_card, password, trailer, Author};
-use crate::card::{AAC, CARD, CONFIGURATION, FUSES, REGISTERS};
 use crate::command::command;
+use crate::layout::{
+    AAC, CARD, CONFIGURATION, ENTRY_HEADER, FUSES, LOG_SPACE, LONGEST_SESSION, MOST_RECORDS,
+    REGISTERS, SHORTEST_LOG, SHORTEST_SESSION, TRAILER, ZONE,
+};
 use crate::listing::listing;
 use crate::record::Reader;
 use crate::refusal::Refusal;
-use crate::session::{check, run, LONGEST};
-use crate::{encoded, examples, gen, log, samples};
+use crate::session::{check, run};
+use crate::{edges, encoded, examples, gen, log, samples};
 
 const NONE: [u8; 4] = [0, 0, 0, 0];
 
@@ -234,6 +239,8 @@ fn configuration_rights_go_byte_by_byte() {
 
 #[test]
 fn edges() {
+    assert_eq!((CARD, FUSES, SHORTEST_SESSION), (2177, 2176, 2185));
+    assert_eq!((LONGEST_SESSION, MOST_RECORDS, LOG_SPACE), (65_536, 4096, 65_536));
     let empty = raw(7, &[], CARD, 0);
     assert_eq!(run(&empty, &mut [0; 2185]), Ok(2185));
     assert_eq!(session_refused(&empty[1..]), 1);
@@ -287,16 +294,17 @@ fn caller_refused() {
 #[test]
 fn sessions_refused_in_order() {
     assert_eq!(session_refused(&[]), 1);
-    let mut all_wrong = raw(5, &[0, 0], 0, 4097);
-    let end = all_wrong.len() - 8;
+    let many = MOST_RECORDS + 1;
+    let mut all_wrong = raw(5, &[0, 0], 0, many);
+    let end = all_wrong.len() - TRAILER;
     all_wrong[end + 6] = 0;
-    assert_eq!(session_refused(&[&all_wrong[..], &[0; LONGEST]].concat()), 1);
+    assert_eq!(session_refused(&[&all_wrong[..], &[0; LONGEST_SESSION]].concat()), 1);
     assert_eq!(session_refused(&all_wrong), 2);
     all_wrong[end + 6] = 0x53;
     assert_eq!(session_refused(&all_wrong), 3);
-    assert_eq!(session_refused(&raw(5, &[0, 0], CARD + 3, 4097)), 3);
-    assert_eq!(session_refused(&raw(5, &[0, 0], CARD + 0x10000, 4097)), 3);
-    assert_eq!(session_refused(&raw(5, &[0, 0], CARD, 4097)), 4);
+    assert_eq!(session_refused(&raw(5, &[0, 0], CARD + 3, many)), 3);
+    assert_eq!(session_refused(&raw(5, &[0, 0], CARD + 0x10000, many)), 3);
+    assert_eq!(session_refused(&raw(5, &[0, 0], CARD, many)), 4);
     assert_eq!(session_refused(&raw(5, &[0, 0], CARD, 1)), 5);
     assert_eq!(session_refused(&raw(4, &[0, 0], CARD, 1)), 6);
     assert_eq!(session_refused(&raw(4, &[3, 8, 0], CARD, 2)), 7);
@@ -306,20 +314,23 @@ fn sessions_refused_in_order() {
     assert_eq!(session_refused(&raw(4, &[8, 0], CARD, 1)), 9);
     assert_eq!(session_refused(&raw(4, &[8], CARD, 0)), 9);
     let two = raw(4, &[8, 2], CARD, 2);
-    assert_eq!(check(&two).map(|c| c.log_length), Ok(2196));
-    assert_eq!(run(&two, &mut [0; 2195]), Err(Refusal::Space));
-    assert_eq!(run(&two, &mut [0; 2196]), Ok(2196));
-    let most = Author::new(7).times(4096, |a| a.read(0, 0)).session();
-    assert_eq!(run(&most, &mut vec![0; 1_100_000]), Ok(4096 * 259 + 2185));
+    let needed = SHORTEST_LOG + 2 * ENTRY_HEADER + 1 + 4;
+    assert_eq!(check(&two).map(|c| c.log_length), Ok(needed));
+    assert_eq!(run(&two, &mut vec![0; needed - 1]), Err(Refusal::Space));
+    assert_eq!(run(&two, &mut vec![0; needed]), Ok(needed));
+    let most = usize::from(MOST_RECORDS);
+    let needed = SHORTEST_LOG + most * (ENTRY_HEADER + ZONE);
+    let most = Author::new(7).times(most, |a| a.read(0, 0)).session();
+    assert_eq!(run(&most, &mut vec![0; 1_100_000]), Ok(needed));
 }
 
 #[test]
 fn reader_stops_at_the_trailer() {
-    assert_eq!(Reader::new(&[8; 7], 0).next_record(), Err(Refusal::CutShort));
-    let mut reader = Reader::new(&[8; 9], 0);
+    assert_eq!(Reader::new(&[8; TRAILER - 1], 0).next_record(), Err(Refusal::CutShort));
+    let mut reader = Reader::new(&[8; TRAILER + 1], 0);
     assert!(reader.next_record().is_ok());
     assert_eq!((reader.next_record(), reader.at()), (Err(Refusal::CutShort), 1));
-    let far = Reader::new(&[8; 9], usize::MAX).next_record();
+    let far = Reader::new(&[8; TRAILER + 1], usize::MAX).next_record();
     assert_eq!(far, Err(Refusal::CutShort));
 }
 
@@ -362,7 +373,7 @@ fn session_and_single_commands_agree() {
             let length = command(&mut card, &mut state, record, &mut space).unwrap();
             assert_eq!(log::answer(&log[..n], k.into()), Ok(&space[..length]));
         }
-        assert_eq!(card, log[n - 8 - CARD..n - 8]);
+        assert_eq!(card, log[n - SHORTEST_LOG..n - TRAILER]);
     }
 }
 
@@ -371,7 +382,7 @@ fn printed_example_and_listings() {
     let printed = examples::printed().session();
     assert_eq!(listing(&printed), "0 08 06\n1 06 A5 5A\nfuses 06\n");
     assert_eq!(listing(&[]), "refused 1\n");
-    assert_eq!(listing(&vec![0; LONGEST + 1]), "refused 1\n");
+    assert_eq!(listing(&vec![0; LONGEST_SESSION + 1]), "refused 1\n");
     let power = Author::new(0).power().session();
     assert_eq!(listing(&power), "0 01\nfuses 00\n");
 }
@@ -384,4 +395,47 @@ fn samples_meet_every_session_refusal() {
     }
     let total: usize = samples::all().iter().map(Vec::len).sum();
     assert!(total < 300_000);
+}
+
+/// The sessions at the edges, by name.
+fn edge_sessions() -> HashMap<&'static str, Vec<u8>> {
+    edges::all().into_iter().collect()
+}
+
+#[test]
+fn edge_sessions_have_their_sizes() {
+    let sessions = edge_sessions();
+    let sizes = |name| {
+        let session: &[u8] = &sessions[name];
+        let checked = check(session).map(|c| (c.count, c.log_length));
+        (session.len(), checked.map_err(Refusal::number))
+    };
+    assert_eq!(sizes("empty"), (0, Err(1)));
+    assert_eq!(sizes("below-least"), (2184, Err(1)));
+    assert_eq!(sizes("least"), (2185, Ok((0, 2185))));
+    assert_eq!(sizes("greatest"), (65_536, Ok((4096, 65_536))));
+    assert_eq!(sizes("byte-more"), (65_537, Err(1)));
+    assert_eq!(sizes("record-more"), (65_536, Err(4)));
+    assert_eq!(sizes("log-byte-more"), (65_536, Ok((4096, 65_537))));
+    assert_eq!(listing(&sessions["log-byte-more"]), "refused 10\n");
+    let greatest = listing(&sessions["greatest"]);
+    for kind in 1..=12 {
+        let kind = format!("{kind:02X}");
+        assert!(greatest.lines().any(|line| line.split(' ').nth(1) == Some(&kind)), "{kind}");
+    }
+}
+
+/// A listing's length depends on how many records there are and how many bytes they answer in all,
+/// so every number of records is tried with the most that it can answer.
+#[test]
+fn no_listing_is_longer() {
+    let (mut digits, mut longest) = (0, 0);
+    for count in 0..=usize::from(MOST_RECORDS) {
+        let room = LOG_SPACE - SHORTEST_LOG - ENTRY_HEADER * count;
+        let answered = room.min(ZONE * count);
+        let lines = digits + " 04\n".len() * count + " FF".len() * answered;
+        longest = longest.max(lines + "fuses 07\n".len());
+        digits += count.to_string().len();
+    }
+    assert_eq!(listing(&edge_sessions()["longest-listing"]).len(), longest);
 }

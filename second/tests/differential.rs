@@ -9,8 +9,12 @@ mod proved;
 use std::collections::BTreeMap;
 
 use second::author::{counter, fresh_card, Author};
-use second::card::{AAC, CARD, CONFIGURATION, FUSES, REGISTERS};
+use second::edges;
 use second::gen::{self, Rng};
+use second::layout::{
+    AAC, CARD, CONFIGURATION, ENTRY_HEADER, FUSES, LOG_SPACE, LONGEST_SESSION, MOST_RECORDS,
+    REGISTERS, SHORTEST_LOG, SHORTEST_SESSION, TRAILER,
+};
 use second::samples;
 
 const STAGES: [u8; 4] = [7, 6, 4, 0];
@@ -353,7 +357,7 @@ fn read_log(rng: &mut Rng, seed: &str, log: &[u8], met: &mut Met) {
 
 /// Runs a session with log spaces too short, exact and long, and reads its log.
 fn one_session(rng: &mut Rng, seed: &str, session: &[u8], met: &mut Met) {
-    let long = rng.pick(&[65_536, 70_000, 1_100_000]);
+    let long = rng.pick(&[LOG_SPACE, 70_000, 1_100_000]);
     let (result, log) = both::run(seed, session, long);
     met.note("sessions");
     met.note(&format!("refusal {}", result & 0xFF));
@@ -370,7 +374,7 @@ fn one_session(rng: &mut Rng, seed: &str, session: &[u8], met: &mut Met) {
         let damaged = gen::damaged_log(rng, &log[..needed]);
         read_log(rng, seed, &damaged, met);
     } else {
-        both::run(seed, session, rng.pick(&[0, 2184, 2185, 3000]));
+        both::run(seed, session, rng.pick(&[0, SHORTEST_LOG - 1, SHORTEST_LOG, 3000]));
     }
 }
 
@@ -384,7 +388,7 @@ fn sessions_and_logs() {
         let some = rng.below(150);
         let mut records = rng.pick(&[0, few, few, some, some, some]);
         if rng.chance(2) {
-            records = 4096;
+            records = MOST_RECORDS.into();
         }
         let session = gen::session(&mut rng, records);
         one_session(&mut rng, &name, &session, &mut met);
@@ -425,7 +429,7 @@ fn every_change_of_a_trailer_or_header() {
             both::run(FIXED, &changed, 3000);
         }
     }
-    let card_at = log.len() - CARD - 8;
+    let card_at = log.len() - SHORTEST_LOG;
     let trailer = card_at + FUSES..log.len();
     for at in (0..card_at).chain(trailer) {
         both::answer(FIXED, &log[..at], 0);
@@ -452,7 +456,7 @@ fn every_set_of_faults_in_a_session() {
         let has = |bit: u32| faults >> bit & 1 == 1;
         let mut author = Author::new(if has(4) { 5 } else { 6 }).reset();
         if has(0) {
-            author = author.text(&[b' '; 65_536]);
+            author = author.text(&[b' '; LONGEST_SESSION]);
         }
         if has(5) {
             author = author.record(&[13]);
@@ -461,7 +465,7 @@ fn every_set_of_faults_in_a_session() {
             author = author.select(8);
         }
         let mut session = author.session();
-        let end = session.len() - 8;
+        let end = session.len() - TRAILER;
         if has(1) {
             session[end + 7] ^= 1;
         }
@@ -474,7 +478,8 @@ fn every_set_of_faults_in_a_session() {
         if has(7) {
             session.insert(end, 8);
         }
-        for space in [0, 2191, 2192, 70_000] {
+        let needed = SHORTEST_LOG + ENTRY_HEADER + 4;
+        for space in [0, needed - 1, needed, 70_000] {
             both::run(FIXED, &session, space);
         }
     }
@@ -506,11 +511,11 @@ fn every_kind_and_length_in_a_log() {
             }
         }
     }
-    for count in [4095, 4096, 4097, 5000] {
-        let entries = vec![(11, 0); count];
-        let log = written_log(&entries, count as u16);
-        for number in [0, 4094, 4095, 4096, 4097] {
-            both::answer(FIXED, &log, number);
+    for count in [MOST_RECORDS - 1, MOST_RECORDS, MOST_RECORDS + 1, 5000] {
+        let entries = vec![(11, 0); count.into()];
+        let log = written_log(&entries, count);
+        for number in std::iter::once(0).chain(MOST_RECORDS - 2..=MOST_RECORDS + 1) {
+            both::answer(FIXED, &log, number.into());
         }
     }
     for count in 0..5 {
@@ -520,22 +525,24 @@ fn every_kind_and_length_in_a_log() {
 
 #[test]
 fn edges_of_length_and_count() {
-    for length in [65_535, 65_536, 65_537, 65_538, 131_072] {
-        let text = vec![b' '; length - CARD - 9];
+    for length in (LONGEST_SESSION - 1..LONGEST_SESSION + 3).chain([2 * LONGEST_SESSION]) {
+        let text = vec![b' '; length - SHORTEST_SESSION - 1];
         let session = Author::new(6).text(&text).read_fuses().session();
         both::run(FIXED, &session, 70_000);
     }
-    for count in [4095, 4096, 4097] {
-        let many = |record: &[u8]| Author::new(4).times(count, |a| a.record(record)).session();
+    for count in MOST_RECORDS - 1..=MOST_RECORDS + 1 {
+        let many =
+            |record: &[u8]| Author::new(4).times(count.into(), |a| a.record(record)).session();
         both::run(FIXED, &many(&[8]), 70_000);
         both::run(FIXED, &many(&[4, 3, 0]), 1_100_000);
     }
 }
 
 #[test]
-fn sample_sessions() {
-    for session in samples::all() {
-        for space in [0, 2185, 65_536, 1_100_000] {
+fn sample_and_edge_sessions() {
+    let edges = edges::all().into_iter().map(|(_, session)| session);
+    for session in samples::all().into_iter().chain(edges) {
+        for space in [0, SHORTEST_LOG, LOG_SPACE, 1_100_000] {
             both::run(FIXED, &session, space);
         }
     }

@@ -12,6 +12,7 @@ use std::time::{Duration, Instant};
 use second::author::Author;
 use second::encoded;
 use second::gen::{self, Rng};
+use second::layout::MOST_RECORDS;
 
 const ROUNDS: usize = 9;
 const ROUND: Duration = Duration::from_millis(40);
@@ -88,9 +89,10 @@ fn main() {
     let mix: Vec<Vec<u8>> = (0..200).map(|_| gen::session(&mut rng, 60)).collect();
     let empty = Author::new(0).session();
     let short = |a: Author| a.power().select(3).read_fuses().begin();
-    let short = Author::new(0).times(1024, short).session();
-    let zone_reads = Author::new(0).times(4096, |a| a.read(0x80, 0)).session();
-    let configuration_reads = Author::new(0).times(4096, |a| a.read_configuration(0, 128));
+    let most = usize::from(MOST_RECORDS);
+    let short = Author::new(0).times(most / 4, short).session();
+    let zone_reads = Author::new(0).times(most, |a| a.read(0x80, 0)).session();
+    let configuration_reads = Author::new(0).times(most, |a| a.read_configuration(0, 128));
     let configuration_reads = configuration_reads.session();
 
     println!(

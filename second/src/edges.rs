@@ -1,0 +1,88 @@
+//! Sessions at the edges of what is accepted, and one step beyond each edge.
+
+use crate::author::Author;
+use crate::layout::{
+    ENTRY_HEADER, LOG_SPACE, LONGEST_SESSION, MOST_RECORDS, SHORTEST_LOG, ZONE, ZONES,
+};
+use crate::session;
+
+/// A card whose zones hold bytes that tell their places apart.
+fn marked() -> Author {
+    let zone: Vec<u8> = (0..=255).collect();
+    (0..ZONES).fold(Author::new(7), |author, k| {
+        let turned = [&zone[32 * k..], &zone[..32 * k]].concat();
+        author.put_zone(k, 0, &turned)
+    })
+}
+
+/// Record `k` of a list that goes through the kinds in turn.
+fn kind_in_turn(author: Author, k: u16) -> Author {
+    let byte = (k / 12) as u8;
+    match k % 12 {
+        0 => author.reset(),
+        1 => author.select(byte % ZONES as u8),
+        2 => author.write(byte, &[byte; 16]),
+        3 => author.read(byte, 8),
+        4 => author.write_configuration(byte % 128, &[byte; 5]),
+        5 => author.read_configuration(byte % 121, 8),
+        6 => author.right(byte % 16),
+        7 => author.write_fuses(),
+        8 => author.read_fuses(),
+        9 => author.begin(),
+        10 => author.verdict(byte % 2, b"verdicts"),
+        _ => author.power(),
+    }
+}
+
+fn log_length(author: Author) -> usize {
+    session::check(&author.session()).expect("the session is sound").log_length
+}
+
+/// As many records as a session may have, all kinds among them, with a log of the given length.
+///
+/// The list ends in as few zone reads as bring the log there, the last one not longer than needed.
+fn most_records(length: usize) -> Author {
+    let ending = |reads: u16, last: usize| {
+        let first = (0..MOST_RECORDS - reads).fold(marked(), kind_in_turn);
+        first.times(usize::from(reads) - 1, |a| a.read(0x80, 0)).read(0x80, last as u8)
+    };
+    let enough = |reads: &u16| log_length(ending(*reads, ZONE)) >= length;
+    let reads = (1..MOST_RECORDS).find(enough).expect("zone reads fill the log");
+    let over = log_length(ending(reads, ZONE)) - length;
+    ending(reads, ZONE - over)
+}
+
+/// The longest text that the program can be asked for.
+///
+/// A response byte takes one byte of the log and gives three of the text. An entry's header takes
+/// three of the log and gives at most eight of the text: four digits, a space, the kind, the line's
+/// end. So the text is longest when the log is full and has as few entries as can fill it: all but
+/// one read a whole zone.
+fn longest_listing() -> Author {
+    let entries = LOG_SPACE - SHORTEST_LOG;
+    let whole = ENTRY_HEADER + ZONE;
+    let reads = (0..entries / whole).fold(marked(), |author, k| author.read(k as u8, 0));
+    reads.read(0xFF, (entries % whole - ENTRY_HEADER) as u8)
+}
+
+/// The session with as much free text as makes it this long.
+fn padded(author: Author, length: usize) -> Vec<u8> {
+    let text = vec![b' '; length - author.clone().session().len()];
+    author.text(&text).session()
+}
+
+/// Names and sessions.
+pub fn all() -> Vec<(&'static str, Vec<u8>)> {
+    let least = Author::new(7).session();
+    let full = most_records(LOG_SPACE);
+    vec![
+        ("empty", Vec::new()),
+        ("below-least", least[1..].to_vec()),
+        ("least", least),
+        ("greatest", padded(full.clone(), LONGEST_SESSION)),
+        ("byte-more", padded(full.clone(), LONGEST_SESSION + 1)),
+        ("record-more", padded(full.power(), LONGEST_SESSION)),
+        ("log-byte-more", padded(most_records(LOG_SPACE + 1), LONGEST_SESSION)),
+        ("longest-listing", longest_listing().session()),
+    ]
+}

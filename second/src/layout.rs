@@ -1,0 +1,36 @@
+//! Where things lie in a card, and how long cards, sessions and logs are. The other modules have
+//! these numbers from here, by name.
+
+pub const ZONES: usize = 8;
+pub const ZONE: usize = 256;
+pub const PAGE: usize = 16;
+
+/// Where the configuration begins, behind the zones, and what has a place in it.
+pub const CONFIGURATION: usize = ZONES * ZONE;
+pub const REGISTERS: usize = CONFIGURATION + 0x10;
+pub const AAC: usize = CONFIGURATION + 0x20;
+pub const CRYPTOGRAM: usize = CONFIGURATION + 0x28;
+
+/// The fuse byte, behind the 128 bytes of the configuration.
+pub const FUSES: usize = CONFIGURATION + 0x80;
+
+/// The length of a card.
+pub const CARD: usize = FUSES + 1;
+
+/// What ends a session, and a log: a place, a count, a mark.
+pub const TRAILER: usize = 8;
+
+/// The most records of a session, and entries of a log.
+pub const MOST_RECORDS: u16 = 4096;
+
+pub const SHORTEST_SESSION: usize = CARD + TRAILER;
+pub const LONGEST_SESSION: usize = 65_536;
+
+/// Kind and response length before each response of a log.
+pub const ENTRY_HEADER: usize = 3;
+
+/// What a log has beside its entries.
+pub const SHORTEST_LOG: usize = CARD + TRAILER;
+
+/// The log space of the printing program.
+pub const LOG_SPACE: usize = 65_536;
