@@ -125,7 +125,7 @@ pub fn decode(bytes: &[u8]) -> Result<(Record<'_>, usize), Refusal> {
     Ok((record, bytes.len() - rest.len()))
 }
 
-/// A session's bytes and a place in them.
+/// Reads the records of a session, one after the other.
 #[derive(Clone, Copy, Debug)]
 pub struct Reader<'a> {
     session: &'a [u8],

@@ -4,7 +4,7 @@ ghost use Rattle.model.specs.Volatile.{powerUp, isActive, isBegun, isGranted};
 ghost use Rattle.model.specs.Volatile as model;
 ghost use Rattle.access.specs.State.{activeOf, authenticationOf, volatileOf};
 
-// A zone number and a password set number both run from 0 to 7; neither is taken for the other.
+// The number of a zone and that of a password set, each from 0 to 7: two types, so that neither passes for the other.
 pub struct Zone(pub u8);
 
 pub struct PwSet(pub u8);

@@ -1,5 +1,5 @@
--- Demand 3 said of the code. A run of the code is a list of calls, each of which meets the contract of `command`: it gets the
--- card and the state that the last one left. Two runs on cards that agree outside the secret places give back the same results
+-- Demand 3 said of the code. A run of the code is a list of calls, each of which meets the contract of `command` on the card and in
+-- the state that came out of the call before. Two runs on cards that agree outside the secret places give back the same results
 -- and the same response spaces, call by call.
 use Prim.Native.Nat.{ℕ, _<_}
 use mathlib.Core.Bool.{Bool, true, false}

@@ -66,6 +66,7 @@ module _ (o : Outcome) (v : Volatile) (b : List ℕ) where
   pub kept : (why : Refusal) → o ≡ outcome.Refused why → b ≡ stateAfter (outcomeNumber o) v b
   kept why e = rw (e, number-some why .1)
 
-  pub rewritten : (f k u : ℕ) → o ≡ outcome.Accepted → length b ≡ 4 → f ≡ activeFlag (v .active) → k ≡ activeSelector (v .active) → u ≡ authenticationByte (v .authentication)
+  pub rewritten : (f k u : ℕ) → o ≡ outcome.Accepted → length b ≡ 4 → f ≡ activeFlag (v .active) → k ≡ activeSelector (v .active)
+      → u ≡ authenticationByte (v .authentication)
       → set (set (set (set b 0 (v .zone)) 1 f) 2 k) 3 u ≡ stateAfter (outcomeNumber o) v b
   rewritten f k u e l p q r = rw e (stored b (v .zone) f k u l ∙ (λ i. v .zone ∷ p i ∷ q i ∷ r i ∷ []))

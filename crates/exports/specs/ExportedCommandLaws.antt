@@ -44,6 +44,7 @@ state-told c b sent space = on-check (check c (stateOf b)) refl
         state-read _ (good-after c (stateOf b) k (decode-fields sent k n (a .decodes)) (good-check c (stateOf b) e) .range)
 
     on-check : (n : ℕ) → check c (stateOf b) ≡ n
-        → (let r = calls.carried check decode apply c (stateOf b) space (calls.checked n fitted) .reply in stateOf (stateAfter (r .refusal) (r .state) b) ≡ r .state)
+        → (let r = calls.carried check decode apply c (stateOf b) space (calls.checked n fitted) .reply in stateOf (stateAfter (r .refusal) (r .state) b)
+        ≡ r .state)
     on-check zero e = on-fitted fitted e refl
     on-check (suc n) e = refl

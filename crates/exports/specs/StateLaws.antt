@@ -54,7 +54,8 @@ pub state-range : (b : List ℕ) → stateInRange at88sc1608 (stateOf b) ≡ isS
 unfolding stateOf
 state-range b = go (isState b) refl
   where
-    go : (t : Bool) → isState b ≡ t → stateInRange at88sc1608 (cond t (state (at b 0) (activeRead (at b 1) (at b 2)) (authenticationRead (at b 3))) (state 255 none idle)) ≡ t
+    go : (t : Bool) → isState b ≡ t
+        → stateInRange at88sc1608 (cond t (state (at b 0) (activeRead (at b 1) (at b 2)) (authenticationRead (at b 3))) (state 255 none idle)) ≡ t
     go true e = read-range b e
     go false e = refl
 

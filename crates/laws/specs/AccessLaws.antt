@@ -44,7 +44,8 @@ pub configuration-read : (ρ : List ℕ) (s : Volatile) (i : ℕ) → 2048 ≤ i
 unfolding mayRead
 configuration-read ρ s i h k = rw (le-ltb i 2048 h, lt-ltb i fuseAt k)
 
-pub configuration-written : (ρ : List ℕ) (s : Volatile) (i : ℕ) → 2048 ≤ i → i < fuseAt → mayWrite ρ s i ≡ configurationAllows 1 (fuses ρ) (i - 2048) (s .active)
+pub configuration-written : (ρ : List ℕ) (s : Volatile) (i : ℕ) → 2048 ≤ i → i < fuseAt
+    → mayWrite ρ s i ≡ configurationAllows 1 (fuses ρ) (i - 2048) (s .active)
 unfolding mayWrite
 configuration-written ρ s i h k = rw (le-ltb i 2048 h, lt-ltb i fuseAt k)
 

@@ -60,7 +60,8 @@ module _ {S K : Type 0} (check : List ℕ → S → ℕ) (decode : List ℕ → 
       record { checks = p .0; decodes = r .0; exactly = r .1; fits = q .1 }
 
   -- and it is carried out
-  pub carried-out : (c : List ℕ) (s : S) (x : Call) (k : K) (n : ℕ) → Admitted c s x k n → command check decode act c s x ≡ carried check decode act c s (x .space) (whole k n)
+  pub carried-out : (c : List ℕ) (s : S) (x : Call) (k : K) (n : ℕ) → Admitted c s x k n
+      → command check decode act c s x ≡ carried check decode act c s (x .space) (whole k n)
   unfolding admission command
   carried-out c s x k n a = rw (a .checks, a .decodes, le-ltb n (length (x .sent)) (a .exactly), le-ltb (length (x .space)) _ (a .fits))
 

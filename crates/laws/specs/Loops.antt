@@ -46,7 +46,8 @@ unfolding stores
 stores-done rule cell xs s c k e h = rw (drop-of-length-le xs h) at e
 
 -- two rules and two maps that agree at the cells
-pub stores-cong : (rule rule′ : ℕ → ℕ → ℕ → ℕ) (cell cell′ : ℕ → ℕ) → ((k : ℕ) → cell k ≡ cell′ k) → ((k old new : ℕ) → rule (cell k) old new ≡ rule′ (cell k) old new)
+pub stores-cong : (rule rule′ : ℕ → ℕ → ℕ → ℕ) (cell cell′ : ℕ → ℕ) → ((k : ℕ) → cell k ≡ cell′ k)
+    → ((k old new : ℕ) → rule (cell k) old new ≡ rule′ (cell k) old new)
     → (xs : List ℕ) (k : ℕ) (c : List ℕ) → stores rule cell xs k c ≡ stores rule′ cell′ xs k c
 unfolding stores
 stores-cong rule rule′ cell cell′ p r [] k c = refl

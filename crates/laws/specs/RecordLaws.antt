@@ -83,8 +83,17 @@ module _ (a n : ℕ) (xs : List ℕ) where
       (λ r l. omega (arith, leb-true a 7 r))
       (λ r l. read-count (eqb n 0) refl)
       (λ r l. omega (arith, leb-true 1 n (and-left (leb 1 n) _ r), leb-true n 16 (and-right (leb 1 n) _ r)))
-      (λ r l. omega (arith, leb-true 1 n (and-left (leb 1 n) _ (and-right (leb a 127) _ r)), leb-true (a + n) 128 (and-right (leb 1 n) _ (and-right (leb a 127) _ r))))
-      (λ r l. omega (arith, leb-true a 127 (and-left (leb a 127) _ r), leb-true 1 n (and-left (leb 1 n) _ (and-right (leb a 127) _ r)), leb-true n 16 (and-right (leb 1 n) _ (and-right (leb a 127) _ r))))
+      (λ r l. omega (
+        arith,
+        leb-true 1 n (and-left (leb 1 n) _ (and-right (leb a 127) _ r)),
+        leb-true (a + n) 128 (and-right (leb 1 n) _ (and-right (leb a 127) _ r)),
+      ))
+      (λ r l. omega (
+        arith,
+        leb-true a 127 (and-left (leb a 127) _ r),
+        leb-true 1 n (and-left (leb 1 n) _ (and-right (leb a 127) _ r)),
+        leb-true n 16 (and-right (leb 1 n) _ (and-right (leb a 127) _ r)),
+      ))
       (λ r l. tt)
       (λ r l. tt)
       (λ r l. (omega (arith, leb-true a 15 r), l))
@@ -102,7 +111,15 @@ pub decode-whole : (part : List ℕ) (k : Command) (n : ℕ) → Accepted part k
 unfolding decode
 decode-whole part k n a =
     let w = a .within in
-    rw (ne-eqb (length part) 0 (λ e. omega arith), a .kind, le-ltb (length part) (dataAt part) (omega arith), a .fields, le-ltb (length part) (recordLength part) w, a .command, a .size)
+    rw (
+      ne-eqb (length part) 0 (λ e. omega arith),
+      a .kind,
+      le-ltb (length part) (dataAt part) (omega arith),
+      a .fields,
+      le-ltb (length part) (recordLength part) w,
+      a .command,
+      a .size,
+    )
 
 -- fixed fields that a kind does not have play no part
 record Alike (kind a n a′ n′ : ℕ) : Type 0 where
@@ -142,7 +159,9 @@ decode-front part k n e =
       kind = rw at-kind (a .kind);
       fields = rw at-kind (same .range ∙ a .fields);
       within = rw (own-length, long) (le-refl n);
-      command = ap (λ (x : ℕ). made x (at own 1) (at own 2) (dataOf own)) at-kind ∙ same .command (dataOf own) ∙ ap (made (at part 0) (at part 1) (at part 2)) same-data ∙ a .command;
+      command =
+          ap (λ (x : ℕ). made x (at own 1) (at own 2) (dataOf own)) at-kind ∙ same .command (dataOf own)
+          ∙ ap (made (at part 0) (at part 1) (at part 2)) same-data ∙ a .command;
       size = long;
     })
   where

@@ -70,7 +70,8 @@ module _ (D : Device) where
     card-bytes c s k hc hk = changes D Bytes c s k (λ d i v p w j. at-set-either (λ x. x < 256) d i v j (go d i v p w) (p j)) hc
       where
         go : (d : List ℕ) (i v : ℕ) → Bytes d → Change D (rules D c) s (carried k) d i v → v < 256
-        go d i v p (writes i′ m) = choice (λ x. x < 256) (D .mayWrite (rules D c) s i) _ _ (sound .merge-byte (rules D c) i (at d i) (at (carried k) m) (p i) (hk m)) (p i)
+        go d i v p (writes i′ m) =
+            choice (λ x. x < 256) (D .mayWrite (rules D c) s i) _ _ (sound .merge-byte (rules D c) i (at d i) (at (carried k) m) (p i) (hk m)) (p i)
         go d i v p (fills n) = omega arith
         go d i v p (spends n) = sound .spend-byte _ (p _)
         go d i v p (renews n m) = hk m

@@ -33,7 +33,8 @@ module _ (number kind : ℕ) (response : List ℕ) where
       omega arith
 
   pub line-put : (l : List ℕ) (i : ℕ) (l₁ : List ℕ) (i₁ : ℕ) (l₂ : List ℕ) (i₂ : ℕ) (l₃ : List ℕ) (i₃ : ℕ) (l₄ : List ℕ) (i₄ : ℕ)
-      → Put l i (decimal number) l₁ i₁ → Put l₁ i₁ (hex kind) l₂ i₂ → Put l₂ i₂ (hexes response) l₃ i₃ → Put l₃ i₃ (0x0A ∷ []) l₄ i₄ → Put l i (line number kind response) l₄ i₄
+      → Put l i (decimal number) l₁ i₁ → Put l₁ i₁ (hex kind) l₂ i₂ → Put l₂ i₂ (hexes response) l₃ i₃ → Put l₃ i₃ (0x0A ∷ []) l₄ i₄
+      → Put l i (line number kind response) l₄ i₄
   line-put l i l₁ i₁ l₂ i₂ l₃ i₃ l₄ i₄ p q r s =
       put-then l i (decimal number) l₁ i₁ (hexes (kind ∷ response) ++ (0x0A ∷ [])) l₄ i₄ p
       (put-then l₁ i₁ (hexes (kind ∷ response)) l₃ i₃ (0x0A ∷ []) l₄ i₄ (put-then l₁ i₁ (hex kind) l₂ i₂ (hexes response) l₃ i₃ q r) s)
@@ -129,7 +130,8 @@ module _ (text l : List ℕ) (count end i place to : ℕ) (text′ : List ℕ) (
         let s = g .small in
         omega arith
 
-    pub lining-next : (to′ : ℕ) (text″ : List ℕ) → Put text′ to (line i (at part 0) (drop 3 part)) text″ to′ → Lining text l count end (i + 1) (place + 3 + n) to′ text″
+    pub lining-next : (to′ : ℕ) (text″ : List ℕ) → Put text′ to (line i (at part 0) (drop 3 part)) text″ to′
+        → Lining text l count end (i + 1) (place + 3 + n) to′ text″
     lining-next to′ text″ q =
         record {
           few = omega arith;
@@ -141,7 +143,8 @@ module _ (text l : List ℕ) (count end i place to : ℕ) (text′ : List ℕ) (
           small = g .small;
         }
 
-pub lining-done : (text l : List ℕ) (count end i place to : ℕ) (text′ : List ℕ) → Lining text l count end i place to text′ → count ≤ i → Put text 0 (linesAt count 0 l 0) text′ to
+pub lining-done : (text l : List ℕ) (count end i place to : ℕ) (text′ : List ℕ) → Lining text l count end i place to text′ → count ≤ i
+    → Put text 0 (linesAt count 0 l 0) text′ to
 lining-done text l count end i place to text′ g h =
     let z : count - i ≡ 0 = omega arith in
     let e : linesAt count 0 l 0 ≡ g .done = sym (g .whole) ∙ ap (λ (n : ℕ). g .done ++ linesAt n i l place) z ∙ append-nil (g .done) in
@@ -168,10 +171,12 @@ module _ (l : List ℕ) (r : LogReady l) where
         }
 
     pub log-put : (t t₁ : List ℕ) (i₁ : ℕ) (t₂ : List ℕ) (i₂ : ℕ) (t₃ : List ℕ) (i₃ : ℕ) (t₄ : List ℕ) (i₄ : ℕ)
-        → Put t 0 (linesAt count 0 l 0) t₁ i₁ → Put t₁ i₁ (0x66 ∷ 0x75 ∷ 0x73 ∷ 0x65 ∷ 0x73 ∷ []) t₂ i₂ → Put t₂ i₂ (hex (at l (end + fuseAt))) t₃ i₃ → Put t₃ i₃ (0x0A ∷ []) t₄ i₄
+        → Put t 0 (linesAt count 0 l 0) t₁ i₁ → Put t₁ i₁ (0x66 ∷ 0x75 ∷ 0x73 ∷ 0x65 ∷ 0x73 ∷ []) t₂ i₂ → Put t₂ i₂ (hex (at l (end + fuseAt))) t₃ i₃
+        → Put t₃ i₃ (0x0A ∷ []) t₄ i₄
         → Put t 0 (logLines l) t₄ i₄
     log-put t t₁ i₁ t₂ i₂ t₃ i₃ t₄ i₄ p q s u =
-        rw (← counted, ← points) (put-then t 0 (linesAt count 0 l 0) t₁ i₁ (fusesLine (at l (end + fuseAt))) t₄ i₄ p (word-put (0x66 ∷ 0x75 ∷ 0x73 ∷ 0x65 ∷ 0x73 ∷ []) (hex (at l (end + fuseAt))) t₁ i₁ t₂ i₂ t₃ i₃ t₄ i₄ q s u))
+        rw (← counted, ← points) (put-then t 0 (linesAt count 0 l 0) t₁ i₁ (fusesLine (at l (end + fuseAt))) t₄ i₄ p
+        (word-put (0x66 ∷ 0x75 ∷ 0x73 ∷ 0x65 ∷ 0x73 ∷ []) (hex (at l (end + fuseAt))) t₁ i₁ t₂ i₂ t₃ i₃ t₄ i₄ q s u))
 
     -- the line of the fuses has room behind the entries' lines
     pub entries-room : (t t₁ : List ℕ) (i₁ : ℕ) → Put t 0 (linesAt count 0 l 0) t₁ i₁ → i₁ + 9 < 2 ^ 64

@@ -25,7 +25,13 @@ module _ (es : List Entry) (card l : List ℕ) (w : LaidOut es card l) where
   pub log-listed : logLines l ≡ lines 0 es ++ fusesLine (at card fuseAt)
   log-listed =
       let o = w .long in
-      rw (count-is es card l w, offset-is es card l w, w .same, getD-append-add (entriesBytes es) (card ++ logTrailer (length (entriesBytes es)) (length es)) fuseAt 0, List·getD-append card (logTrailer (length (entriesBytes es)) (length es)) 0 fuseAt (omega arith))
+      rw (
+        count-is es card l w,
+        offset-is es card l w,
+        w .same,
+        getD-append-add (entriesBytes es) (card ++ logTrailer (length (entriesBytes es)) (length es)) fuseAt 0,
+        List·getD-append card (logTrailer (length (entriesBytes es)) (length es)) 0 fuseAt (omega arith),
+      )
       (ap (λ (x : List ℕ). x ++ fusesLine (at card fuseAt)) (entries-listed es [] (card ++ logTrailer (length (entriesBytes es)) (length es)) 0 (w .fit)))
 
 lines-length : (es : List Entry) (k : ℕ) → k + length es ≤ 10000 → length (lines k es) ≤ 3 * length (entriesBytes es)

@@ -36,13 +36,30 @@ first-small (x ∷ xs) p = choice (λ n. n < 10000) (x .applies) (x .number) (fi
 records-small : (n : ℕ) (s : List ℕ) (i : ℕ) → Small (recordsConditions n s i)
 records-small zero s i = tt
 records-small (suc n) s i =
-    small-append (recordConditions (partAt s i)) (recordsConditions n s (i + recordLength (partAt s i))) (omega arith, (omega arith, (omega arith, (omega arith, (omega arith, tt))))) (records-small n s (i + recordLength (partAt s i)))
+    small-append (recordConditions (partAt s i)) (recordsConditions n s (i + recordLength (partAt s i)))
+    (omega arith, (omega arith, (omega arith, (omega arith, (omega arith, tt))))) (records-small n s (i + recordLength (partAt s i)))
 
 pub refusal-small : (s log : List ℕ) → run s log .refusal < 10000
 refusal-small s log = rw (refusal-is s log) (first-small (conditions s log) all)
   where
     all : Small (conditions s log)
-    all = (omega arith, (omega arith, (omega arith, (omega arith, (omega arith, small-append (recordsConditions (countOf s) s (startOf s)) (lastConditions s log) (records-small (countOf s) s (startOf s)) (omega arith, (omega arith, tt)))))))
+    all = (
+      omega arith,
+      (
+        omega arith,
+        (
+          omega arith,
+          (
+            omega arith,
+            (
+              omega arith,
+              small-append (recordsConditions (countOf s) s (startOf s)) (lastConditions s log)
+                  (records-small (countOf s) s (startOf s)) (omega arith, (omega arith, tt)),
+            ),
+          ),
+        ),
+      ),
+    )
 
 -- ---- the listing
 

@@ -35,7 +35,9 @@ module _ (c : List ℕ) (s : Volatile) (a : ℕ) (zone : s .zone < 8) where
   pub read-zone : (n : ℕ) (readable : Bool) (d l : List ℕ) → readable ≡ zoneReadable (at c fuseAt) (at c (2064 + s .zone)) s
       → l ≡ tab (λ k. cond readable (at c (s .zone * 256 + (a + k) % 256)) 0) n ++ drop n d → l ≡ apply c s (readZone a n) .report .answer ++ drop n d
   unfolding any.apply
-  read-zone n readable d l e q = q ∙ ap (λ (x : List ℕ). x ++ drop n d) (tab-cong _ _ n (λ k h. let w : zoneByte (s .zone) a k ≡ s .zone * 256 + (a + k) % 256 = omega arith in rw (zone-readable k, ← e, w)))
+  read-zone n readable d l e q =
+      q ∙ ap (λ (x : List ℕ). x ++ drop n d)
+      (tab-cong _ _ n (λ k h. let w : zoneByte (s .zone) a k ≡ s .zone * 256 + (a + k) % 256 = omega arith in rw (zone-readable k, ← e, w)))
 
   -- what a store leaves at a cell of the zone
   zone-kept : (k old new : ℕ) → kept at88sc1608 (rules at88sc1608 c) s (zoneCell (s .zone) a k) old new
@@ -51,7 +53,8 @@ module _ (c : List ℕ) (s : Volatile) (a : ℕ) (zone : s .zone < 8) where
   write-zone-shut xs writable e t = sym (stores-kept _ _ (λ k old new. zone-kept k old new ∙ rw (← e, not-true writable t)) xs 0 c)
 
   -- the page is taken out, stored into and put back
-  pub write-zone-open : (xs ys : List ℕ) (writable merges : Bool) (base : ℕ) → writable ≡ zoneWritable (at c fuseAt) (at c (2064 + s .zone)) s → not writable ≡ false
+  pub write-zone-open : (xs ys : List ℕ) (writable merges : Bool) (base : ℕ) → writable ≡ zoneWritable (at c fuseAt) (at c (2064 + s .zone)) s
+      → not writable ≡ false
       → merges ≡ mergesOf (at c fuseAt) (at c (2064 + s .zone)) → base ≡ s .zone * 256 + a / 16 * 16 → a < 256 → length c ≡ cardSize
       → ys ≡ stores (λ i. mergedOf merges) (λ k. (a % 16 + k) % 16) xs 0 (take (base + 16 - base) (drop base c))
       → take base c ++ (ys ++ drop (base + 16 - base) (drop base c)) ≡ apply c s (writeZone a xs) .card

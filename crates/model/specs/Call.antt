@@ -60,7 +60,7 @@ pub record Call : Type 0 where
 abbrev pub calling : List ℕ → List ℕ → Call
 calling sent space = record { sent = sent; space = space }
 
--- a refusal gives its number and length 0, hands the state back and changes nothing
+-- a refusal: its number, no response, the state and the space as they came
 abbrev pub refusing : {S : Type 0} → ℕ → S → List ℕ → Reply S
 refusing n s space = record { refusal = n; size = 0; state = s; space = space }
 
@@ -104,7 +104,7 @@ module _ {S K : Type 0} (check : List ℕ → S → ℕ) (decode : List ℕ → 
   unfoldable pub command : List ℕ → S → Call → Called S
   command c s x = carried c s (x .space) (admit c s x)
 
-  -- the card and the state that the next call gets, after a refusal too
+  -- what a call leaves for the next one, be it refused or not
   abbrev pub step : Powered S → Call → Powered S
   step m x =
       record { card = command (m .card) (m .state) x .card; state = command (m .card) (m .state) x .reply .state }

@@ -7,7 +7,7 @@ use Rattle.model.specs.Call.{Decoded, refused, whole}
 use Rattle.model.specs.Command.{Command}
 use Rattle.model.specs.Record.{decode}
 
--- where the records end: where the trailer begins, or at 0 if there are fewer than eight bytes
+-- The end of the records is the start of the trailer. Subtraction stops at 0, so a session shorter than a trailer has its end there.
 abbrev pub recordsEnd : ℕ → ℕ
 recordsEnd n = n - trailerSize
 

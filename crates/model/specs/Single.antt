@@ -16,7 +16,7 @@ use Rattle.model.specs.Apply as any
 use Rattle.model.specs.At88sc1608.{at88sc1608}
 use Rattle.model.specs.Record.{decode}
 
--- F is 7, 6, 4 or 0
+-- the four values that a fuse byte can have
 abbrev pub isFuseByte : ℕ → Bool
 isFuseByte f = eqb f 7 || (eqb f 6 || (eqb f 4 || eqb f 0))
 

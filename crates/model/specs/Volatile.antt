@@ -3,7 +3,7 @@ use Prim.Native.Nat.{ℕ}
 use mathlib.Core.Bool.{Bool, true, false}
 use lib.Dec.{eqb}
 
--- The active password, none or a selector. Selector p below 8 is the write password of set p, and 8 + p its read password.
+-- Which password is active, if any. Selector p below 8 is the write password of set p, and 8 + p its read password.
 pub data Active : Type 0 where
   none : Active
   selector : ℕ → Active

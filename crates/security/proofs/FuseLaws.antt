@@ -16,6 +16,7 @@ pub fuses-kept : (c : List ℕ) (s : Volatile) (t : Bool) → t ≡ isActive (s 
 unfolding any.apply
 fuses-kept c s t e q = rw (← e, q)
 
-pub fuses-blown : (c : List ℕ) (s : Volatile) (t : Bool) (f : ℕ) → t ≡ isActive (s .active) 7 → t ≡ true → f ≡ blow (at c fuseAt) → set c fuseAt f ≡ apply c s writeFuses .card
+pub fuses-blown : (c : List ℕ) (s : Volatile) (t : Bool) (f : ℕ) → t ≡ isActive (s .active) 7 → t ≡ true → f ≡ blow (at c fuseAt)
+    → set c fuseAt f ≡ apply c s writeFuses .card
 unfolding any.apply
 fuses-blown c s t f e q w = rw (← e, q, w)

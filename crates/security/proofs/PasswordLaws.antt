@@ -19,11 +19,13 @@ use native.Mathlib.Omega.{arith}
 
 -- ---- the model's verification by cases
 
-pub verify-card : (c : List ℕ) (s : Volatile) (k : ℕ) (xs : List ℕ) → cardAfter c k (sameList xs (password at88sc1608 c k)) ≡ apply c s (verifyPassword k xs) .card
+pub verify-card : (c : List ℕ) (s : Volatile) (k : ℕ) (xs : List ℕ)
+    → cardAfter c k (sameList xs (password at88sc1608 c k)) ≡ apply c s (verifyPassword k xs) .card
 unfolding any.apply cardAfter
 verify-card c s k xs = go (eqb (at c (counterAt k)) 0) (sameList xs (password at88sc1608 c k))
   where
-    go : (l r : Bool) → cond l c (cond r (set c (counterAt k) 255) (set c (counterAt k) (spentCounter (at c (counterAt k))))) ≡ presented at88sc1608 (attemptOf l r) c s k .card
+    go : (l r : Bool) → cond l c (cond r (set c (counterAt k) 255) (set c (counterAt k) (spentCounter (at c (counterAt k)))))
+        ≡ presented at88sc1608 (attemptOf l r) c s k .card
     go true r = refl
     go false true = refl
     go false false = refl
@@ -83,7 +85,8 @@ module _ (c : List ℕ) (k i : ℕ) (right : Bool) (a : Active) (place : i ≡ c
   unfolding activeAfter cardAfter
   after-right n r = rw (← place, ne-eqb _ _ n, r) (refl, refl)
 
-  pub after-wrong : (v : ℕ) → (at c i ≡ 0 → ⊥) → right ≡ false → v ≡ spentCounter (at c i) → (none ≡ activeAfter c k right a) × (set c i v ≡ cardAfter c k right)
+  pub after-wrong : (v : ℕ) → (at c i ≡ 0 → ⊥) → right ≡ false → v ≡ spentCounter (at c i)
+      → (none ≡ activeAfter c k right a) × (set c i v ≡ cardAfter c k right)
   unfolding activeAfter cardAfter
   after-wrong v n r e = rw (e, ← place, ne-eqb _ _ n, r) (refl, refl)
 

@@ -33,7 +33,8 @@ pub put-length : (l : List ℕ) (i : ℕ) (xs l′ : List ℕ) (i′ : ℕ) → 
 put-length l i xs l′ i′ p = ap length (p .bytes) ∙ length-sets l i xs
 
 -- a space and two digits
-pub put-digits : (l : List ℕ) (i : ℕ) (l₁ : List ℕ) (i₁ : ℕ) (l₂ : List ℕ) (i₂ : ℕ) (l₃ : List ℕ) (i₃ b high low : ℕ) → high ≡ hexDigit (b / 16) → low ≡ hexDigit (b % 16)
+pub put-digits : (l : List ℕ) (i : ℕ) (l₁ : List ℕ) (i₁ : ℕ) (l₂ : List ℕ) (i₂ : ℕ) (l₃ : List ℕ) (i₃ b high low : ℕ) → high ≡ hexDigit (b / 16)
+    → low ≡ hexDigit (b % 16)
     → Put l i (0x20 ∷ []) l₁ i₁ → Put l₁ i₁ (high ∷ []) l₂ i₂ → Put l₂ i₂ (low ∷ []) l₃ i₃ → Put l i (hex b) l₃ i₃
 put-digits l i l₁ i₁ l₂ i₂ l₃ i₃ b high low e f p q r =
     rw (← e, ← f) (put-then l i (0x20 ∷ high ∷ []) l₂ i₂ (low ∷ []) l₃ i₃ (put-then l i (0x20 ∷ []) l₁ i₁ (high ∷ []) l₂ i₂ p q) r)
@@ -70,7 +71,9 @@ module _ (l : List ℕ) (i : ℕ) (bytes : List ℕ) where
     hexing-next to′ l″ p h q =
         record {
           few = next-few h;
-          front = rw (one-more h, hexes-append (take k bytes) (getD bytes k 0 ∷ [])) (put-then l i (hexes (take k bytes)) l′ to (hex (getD bytes k 0)) l″ to′ (p .front) q);
+          front =
+              rw (one-more h, hexes-append (take k bytes) (getD bytes k 0 ∷ []))
+              (put-then l i (hexes (take k bytes)) l′ to (hex (getD bytes k 0)) l″ to′ (p .front) q);
         }
 
     pub all-next : (to′ : ℕ) (l″ : List ℕ) → Putting (λ xs. xs) l i bytes k to l′ → k < length bytes → Put l′ to (getD bytes k 0 ∷ []) l″ to′
@@ -100,7 +103,8 @@ module _ (n : ℕ) where
   pub last-digit : n < 10 → (l : List ℕ) (i : ℕ) (l′ : List ℕ) (i′ : ℕ) → Put l i ((48 + n) ∷ []) l′ i′ → Put l i (decimal n) l′ i′
   last-digit h l i l′ i′ p = rw (decimal-one n h) p
 
-  pub more-digits : 10 ≤ n → (l : List ℕ) (i : ℕ) (l₁ : List ℕ) (i₁ : ℕ) (l₂ : List ℕ) (i₂ : ℕ) → Put l i (decimal (n / 10)) l₁ i₁ → Put l₁ i₁ ((48 + n % 10) ∷ []) l₂ i₂ → Put l i (decimal n) l₂ i₂
+  pub more-digits : 10 ≤ n → (l : List ℕ) (i : ℕ) (l₁ : List ℕ) (i₁ : ℕ) (l₂ : List ℕ) (i₂ : ℕ) → Put l i (decimal (n / 10)) l₁ i₁
+      → Put l₁ i₁ ((48 + n % 10) ∷ []) l₂ i₂ → Put l i (decimal n) l₂ i₂
   more-digits h l i l₁ i₁ l₂ i₂ p q = rw (decimal-more n h) (put-then l i (decimal (n / 10)) l₁ i₁ ((48 + n % 10) ∷ []) l₂ i₂ p q)
 
   pub fewer-digits : 10 ≤ n → length (decimal n) ≡ length (decimal (n / 10)) + 1

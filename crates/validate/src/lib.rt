@@ -29,7 +29,7 @@ pub enum Checked {
     Entries(usize),
 }
 
-// The card, the start and the count.
+// What a session says beside its records: its length, its trailer, the start and the count of the records, the fuse byte.
 pub fn frame(session: &[u8]) -> Outcome
     ensures { λ r. ⌜ outcomeNumber r ≡ model.frame (now (session .entry)) ⌝ }
 {

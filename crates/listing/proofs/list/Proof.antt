@@ -55,7 +55,8 @@ returns c =
     let run = c .before .before .before .before .before .before .before .before .before .before .run in
     let outcome = c .before .before .before .before .before .before .outcome in
     let put-refusal = c .before .before .before .put-refusal in
-    list-put _ _ _ (run .ensures) _ _ _ _ _ (refused-listing _ _ _ (run .ensures) (outcome .given .0 .0) (ap outcomeNumber (outcome .given .1))) (put-refusal .ensures) (c .least .ensures)
+    list-put _ _ _ (run .ensures) _ _ _ _ _ (refused-listing _ _ _ (run .ensures) (outcome .given .0 .0) (ap outcomeNumber (outcome .given .1)))
+    (put-refusal .ensures) (c .least .ensures)
 
 same-length-3 : tie.Need-same-length-3
 same-length-3 c = search needs
@@ -69,7 +70,9 @@ returns-2 c =
     let run = c .before .before .before .before .before .before .before .before .before .before .run in
     let enum-told = c .before .before .before .before .before .before .enum-told in
     let put-log = c .before .before .before .put-log in
-    list-put _ _ _ (run .ensures) _ _ _ _ _ (accepted-listing _ _ _ (run .ensures) (λ i. shared-slice-known .given i .fits) (ap outcomeNumber (enum-told .given .1))) (put-log .ensures) (c .least2 .ensures)
+    list-put _ _ _ (run .ensures) _ _ _ _ _
+    (accepted-listing _ _ _ (run .ensures) (λ i. shared-slice-known .given i .fits) (ap outcomeNumber (enum-told .given .1))) (put-log .ensures)
+    (c .least2 .ensures)
 
 pub list-spec : {M : Type 1} → statement M
 list-spec =

@@ -72,8 +72,10 @@ put-decimal-put-decimal-requires : (t : ℕ) → put-decimal-lts.Need-put-decima
   put-decimal.Post,
 ) (put-decimal-at t) put-decimal.Post
 put-decimal-put-decimal-requires t c κs =
-    let start = c .before .before .before in
-    (let e = start .pre .0 in let l = c .before .if1 .left in omega arith, let e = fewer-digits _ (c .before .if1 .left) in let p = start .pre .1 in omega arith)
+    let start = c .before .before .before in (
+      let e = start .pre .0 in let l = c .before .if1 .left in omega arith,
+      let e = fewer-digits _ (c .before .if1 .left) in let p = start .pre .1 in omega arith,
+    )
 
 put-decimal-cast-put-2 : (t : ℕ) → put-decimal-lts.Need-cast-put-2 (
   put-reads.Asked,
@@ -97,7 +99,14 @@ put-decimal-put-requires-2 : (t : ℕ) → put-decimal-lts.Need-put-requires-2 (
   put-decimal-below t,
   put-decimal.Post,
 ) (put-decimal-at t) put-decimal.Post
-put-decimal-put-requires-2 t c κs = let e = fewer-digits _ (c .before .before .before .before .before .if1 .left) in let p = c .before .before .before .before .before .before .before .pre .1 in let q = c .before .before .before .put-decimal .ensures .past in omega arith
+put-decimal-put-requires-2 t c κs =
+    let start = c .before .before .before .before .before .before .before in
+    let if1 = c .before .before .before .before .before .if1 in
+    let put-decimal = c .before .before .before .put-decimal in
+    let e = fewer-digits _ (if1 .left) in
+    let p = start .pre .1 in
+    let q = put-decimal .ensures .past in
+    omega arith
 
 put-decimal-same-length-2 : (t : ℕ) → put-decimal-lts.Need-same-length-2 (
   put-reads.Asked,

@@ -20,7 +20,13 @@ shared-slice-read-put : tie.Need-shared-slice-read-put Inv-loop μ-loop
 shared-slice-read-put c = search needs
 
 put-requires : tie.Need-put-requires Inv-loop μ-loop
-put-requires c κs = let p = all-place _ _ _ _ _ _ (c .before .before .before .loop .inv) in let t = c .before .before .loop-test .taken in let q = c .before .before .before .before .before .before .pre in omega arith
+put-requires c κs =
+    let the-loop = c .before .before .before .loop in
+    let loop-test = c .before .before .loop-test in
+    let q = c .before .before .before .before .before .before .pre in
+    let p = all-place _ _ _ _ _ _ (the-loop .inv) in
+    let t = loop-test .taken in
+    omega arith
 
 add-i : tie.Need-add-i Inv-loop μ-loop
 add-i c = search needs

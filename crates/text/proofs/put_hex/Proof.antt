@@ -24,12 +24,13 @@ same-length c = search needs
 
 returns : tie.Need-returns
 returns c =
+    let put3 = c .before .before .put3 in
     let start = c .before .before .before .before .before .before .before .before .before .before .before .before .before .before .before in
     let put = c .before .before .before .before .before .before .before .before .before .before .before .before .put in
     let hex-digit = c .before .before .before .before .before .before .before .before .hex-digit in
     let put2 = c .before .before .before .before .before .before .before .put2 in
     let hex-digit2 = c .before .before .before .hex-digit2 in
-    put-digits _ _ _ _ _ _ _ _ (start .args .byte) _ _ (hex-digit .ensures) (hex-digit2 .ensures) (put .ensures) (put2 .ensures) (c .before .before .put3 .ensures)
+    put-digits _ _ _ _ _ _ _ _ (start .args .byte) _ _ (hex-digit .ensures) (hex-digit2 .ensures) (put .ensures) (put2 .ensures) (put3 .ensures)
 
 pub put-hex-spec : {M : Type 1} → statement M
 put-hex-spec =

@@ -30,22 +30,32 @@ active-selector-requires : tie.Need-active-selector-requires
 active-selector-requires c κs = search needs
 
 slice-write-bytes-3 : tie.Need-slice-write-bytes-3
-slice-write-bytes-3 c = let l = c .before .before .before .before .before .pre (ap outcomeNumber (c .before .before .enum-told2 .given .1)) in simp length-set (omega arith)
+slice-write-bytes-3 c =
+    let start = c .before .before .before .before .before in
+    let enum-told2 = c .before .before .enum-told2 in
+    let l = start .pre (ap outcomeNumber (enum-told2 .given .1)) in
+    simp length-set (omega arith)
 
 authentication-byte-requires : tie.Need-authentication-byte-requires
 authentication-byte-requires c κs = search needs
 
 slice-write-bytes-4 : tie.Need-slice-write-bytes-4
-slice-write-bytes-4 c = let l = c .before .before .before .before .before .before .pre (ap outcomeNumber (c .before .before .before .enum-told2 .given .1)) in simp length-set (omega arith)
+slice-write-bytes-4 c =
+    let start = c .before .before .before .before .before .before in
+    let enum-told2 = c .before .before .before .enum-told2 in
+    let l = start .pre (ap outcomeNumber (enum-told2 .given .1)) in
+    simp length-set (omega arith)
 
 same-length : tie.Need-same-length
 same-length c = search needs
 
 returns-2 : tie.Need-returns-2
 returns-2 c =
+    let active-flag = c .before .before .active-flag in
     let start = c .before .before .before .before .before .before in
     let enum-told2 = c .before .before .before .enum-told2 in
-    rewritten _ _ _ _ _ _ (enum-told2 .given .1) (start .pre (ap outcomeNumber (enum-told2 .given .1))) (c .before .before .active-flag .ensures) (c .before .active-selector .ensures) (c .authentication-byte .ensures)
+    rewritten _ _ _ _ _ _ (enum-told2 .given .1) (start .pre (ap outcomeNumber (enum-told2 .given .1))) (active-flag .ensures)
+    (c .before .active-selector .ensures) (c .authentication-byte .ensures)
 
 pub write-state-spec : {M : Type 1} → statement M
 write-state-spec =

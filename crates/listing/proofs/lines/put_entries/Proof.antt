@@ -42,9 +42,12 @@ part-put-line-end c =
 
 put-line-requires : tie.Need-put-line-requires Inv-loop μ-loop
 put-line-requires c κs =
+    let get2 = c .before .before .get2 in
     let the-loop = c .before .before .before .before .loop in
-    let loop-test = c .before .before .before .loop-test in
-    (part-long _ _ _ _ _ _ _ _ (the-loop .inv) (loop-test .taken) _ (c .before .before .get2 .ensures .0), line-fits _ _ _ _ _ _ _ _ (the-loop .inv) (loop-test .taken) _ (c .before .before .get2 .ensures .0))
+    let loop-test = c .before .before .before .loop-test in (
+      part-long _ _ _ _ _ _ _ _ (the-loop .inv) (loop-test .taken) _ (get2 .ensures .0),
+      line-fits _ _ _ _ _ _ _ _ (the-loop .inv) (loop-test .taken) _ (get2 .ensures .0),
+    )
 
 add-i : tie.Need-add-i Inv-loop μ-loop
 add-i c = search needs

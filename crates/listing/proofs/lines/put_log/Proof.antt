@@ -48,23 +48,43 @@ shared-slice-read-put-hex c =
     fuses-within _ (start .pre) _ _ (get2 .ensures .0) (get4 .ensures .0)
 
 put-hex-requires : tie.Need-put-hex-requires
-put-hex-requires c κs = let r = entries-room _ (c .before .before .before .before .before .before .before .before .before .before .before .before .before .before .before .pre) _ _ (c .before .before .before .before .before .before .before .before .before .before .get2 .ensures .0) (c .before .before .before .before .before .before .before .before .before .before .before .before .get4 .ensures .0) _ _ _ (c .before .before .before .before .before .before .before .before .before .put-entries .ensures) in let a = c .before .before .before .before .put-all .ensures .past in omega arith
+put-hex-requires c κs =
+    let start = c .before .before .before .before .before .before .before .before .before .before .before .before .before .before .before in
+    let get4 = c .before .before .before .before .before .before .before .before .before .before .before .before .get4 in
+    let get2 = c .before .before .before .before .before .before .before .before .before .before .get2 in
+    let put-entries = c .before .before .before .before .before .before .before .before .before .put-entries in
+    let put-all = c .before .before .before .before .put-all in
+    let r = entries-room _ (start .pre) _ _ (get2 .ensures .0) (get4 .ensures .0) _ _ _ (put-entries .ensures) in
+    let a = put-all .ensures .past in
+    omega arith
 
 put-requires : tie.Need-put-requires
-put-requires c κs = let r = entries-room _ (c .before .before .before .before .before .before .before .before .before .before .before .before .before .before .before .before .before .before .before .pre) _ _ (c .before .before .before .before .before .before .before .before .before .before .before .before .before .before .get2 .ensures .0) (c .before .before .before .before .before .before .before .before .before .before .before .before .before .before .before .before .get4 .ensures .0) _ _ _ (c .before .before .before .before .before .before .before .before .before .before .before .before .before .put-entries .ensures) in let a = c .before .before .before .before .before .before .before .before .put-all .ensures .past in let h = c .before .before .before .put-hex .ensures .past in omega arith
+put-requires c κs =
+    let start = c .before .before .before .before .before .before .before .before .before .before .before .before .before .before .before .before .before .before .before in
+    let get4 = c .before .before .before .before .before .before .before .before .before .before .before .before .before .before .before .before .get4 in
+    let get2 = c .before .before .before .before .before .before .before .before .before .before .before .before .before .before .get2 in
+    let put-entries = c .before .before .before .before .before .before .before .before .before .before .before .before .before .put-entries in
+    let put-all = c .before .before .before .before .before .before .before .before .put-all in
+    let put-hex = c .before .before .before .put-hex in
+    let r = entries-room _ (start .pre) _ _ (get2 .ensures .0) (get4 .ensures .0) _ _ _ (put-entries .ensures) in
+    let a = put-all .ensures .past in
+    let h = put-hex .ensures .past in
+    omega arith
 
 same-length : tie.Need-same-length
 same-length c = search needs
 
 returns : tie.Need-returns
 returns c =
+    let put = c .before .before .put in
     let start = c .before .before .before .before .before .before .before .before .before .before .before .before .before .before .before .before .before .before .before .before .before .before in
     let get4 = c .before .before .before .before .before .before .before .before .before .before .before .before .before .before .before .before .before .before .before .get4 in
     let get2 = c .before .before .before .before .before .before .before .before .before .before .before .before .before .before .before .before .before .get2 in
     let put-entries = c .before .before .before .before .before .before .before .before .before .before .before .before .before .before .before .before .put-entries in
     let put-all = c .before .before .before .before .before .before .before .before .before .before .before .put-all in
     let put-hex = c .before .before .before .before .before .before .put-hex in
-    log-put _ (start .pre) _ _ (get2 .ensures .0) (get4 .ensures .0) _ _ _ _ _ _ _ _ _ (put-entries .ensures) (put-all .ensures) (put-hex .ensures) (c .before .before .put .ensures)
+    log-put _ (start .pre) _ _ (get2 .ensures .0) (get4 .ensures .0) _ _ _ _ _ _ _ _ _ (put-entries .ensures) (put-all .ensures) (put-hex .ensures)
+    (put .ensures)
 
 pub put-log-spec : {M : Type 1} → statement M
 put-log-spec =

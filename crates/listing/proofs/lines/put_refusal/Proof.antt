@@ -19,10 +19,21 @@ cast-put-decimal : tie.Need-cast-put-decimal
 cast-put-decimal c = search needs
 
 put-decimal-requires : tie.Need-put-decimal-requires
-put-decimal-requires c κs = let p = c .before .before .before .before .put-all .ensures .past in let d = decimal-few (c .number .result) (search needs) in omega arith
+put-decimal-requires c κs =
+    let put-all = c .before .before .before .before .put-all in
+    let p = put-all .ensures .past in
+    let d = decimal-few (c .number .result) (search needs) in
+    omega arith
 
 put-requires : tie.Need-put-requires
-put-requires c κs = let p = c .before .before .before .before .before .before .before .before .put-all .ensures .past in let q = c .before .before .before .put-decimal .ensures .past in let d = decimal-few (c .before .before .before .before .number .result) (search needs) in omega arith
+put-requires c κs =
+    let put-all = c .before .before .before .before .before .before .before .before .put-all in
+    let number = c .before .before .before .before .number in
+    let put-decimal = c .before .before .before .put-decimal in
+    let p = put-all .ensures .past in
+    let q = put-decimal .ensures .past in
+    let d = decimal-few (number .result) (search needs) in
+    omega arith
 
 same-length : tie.Need-same-length
 same-length c = search needs

@@ -39,7 +39,12 @@ add-copy : tie.Need-add-copy Inv-loop μ-loop
 add-copy c = search needs
 
 copy-requires : tie.Need-copy-requires Inv-loop μ-loop
-copy-requires c κs = let l = rolling-long _ _ _ _ _ _ _ _ (c .before .before .before .loop .inv) in let m = c .before .least .ensures in let p = c .before .before .before .before .before .before .before .pre in search needs
+copy-requires c κs =
+    let the-loop = c .before .before .before .loop in
+    let p = c .before .before .before .before .before .before .before .pre in
+    let l = rolling-long _ _ _ _ _ _ _ _ (the-loop .inv) in
+    let m = c .before .least .ensures in
+    search needs
 
 add-i : tie.Need-add-i Inv-loop μ-loop
 add-i c = search needs

@@ -57,11 +57,13 @@ same-length c = search needs
 
 returns-2 : tie.Need-returns-2
 returns-2 c =
+    let store = c .before .before .store in
     let start = c .before .before .before .before .before .before .before .before .before .before .before .before in
     let zone-writable = c .before .before .before .before .before .before .zone-writable in
     let if1 = c .before .before .before .before .before .if1 in
     let merges = c .before .before .before .before .merges in
-    write-zone-open _ _ (start .args .address) (start .pre .1) _ _ _ _ _ (zone-writable .ensures) (if1 .left) (merges .ensures) refl (search needs) (start .pre .0) (c .before .before .store .ensures)
+    write-zone-open _ _ (start .args .address) (start .pre .1) _ _ _ _ _ (zone-writable .ensures) (if1 .left) (merges .ensures) refl (search needs)
+    (start .pre .0) (store .ensures)
 
 pub write-zone-spec : {M : Type 1} → statement M
 write-zone-spec =
