@@ -16,8 +16,8 @@ use Rattle.model.specs.At88sc1608.{at88sc1608}
 use Rattle.model.specs.Device.{Counter, counterPlace}
 use Rattle.model.specs.Record.{decode}
 use Rattle.model.specs.Single.{check, apply, command, replies, final}
-use Rattle.secrecy.specs.Agree.{AgreeOutside}
-use Rattle.secrecy.specs.Secret.{Sealed, register, inZone, inZoneOrPasswords, PresentsNeither, AcceptsNot, Throughout, Indistinguishable}
+use Rattle.secrecy.specs.Secret.{Sealed, register, inZone, inZoneOrPasswords, AgreeOutside}
+use Rattle.secrecy.specs.Secret.{PresentsNeither, AcceptsNot, Throughout, Indistinguishable}
 use Rattle.secrecy.specs.CardSecrecy as model-claims
 use Rattle.access.specs.State.{volatileOf}
 use Rattle.access.specs.declared.volatile.Volatile.{Volatile}

@@ -23,7 +23,7 @@ use Rattle.model.specs.Single.{check, apply, admit, command}
 use Rattle.model.specs.Volatile.{Volatile}
 use Rattle.properties.specs.LogLaws.{entered, trailed, answered}
 use Rattle.properties.specs.Written.{fits-small, entries-small, log-length}
-use Rattle.properties.specs.Accepted.{accepted-run, run-accepted}
+use Rattle.properties.specs.SessionAcceptance.{accepted-run, run-accepted}
 use Rattle.properties.specs.Refused.{refused-run}
 use Rattle.properties.specs.ReadBack.{laid-out}
 use Rattle.properties.specs.SessionLaws.{decode-logs}

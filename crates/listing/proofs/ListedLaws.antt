@@ -12,8 +12,10 @@ use Rattle.model.specs.Session.{entriesOf, endOf, initial, logOf, Ran, run}
 use Rattle.record.specs.RefusalNumber.{refusalNumber, number-some}
 use Rattle.record.specs.declared.refusal.Refusal.{Refusal}
 use Rattle.properties.specs.Written.{log-length, entries-small}
-use Rattle.properties.specs.Accepted.{Accepts, accepted-run, accepting, run-accepted}
-use Rattle.properties.specs.ReadBack.{laid-out, log-valid}
+use Rattle.properties.specs.AcceptedSession.{Accepts, accepting}
+use Rattle.properties.specs.SessionAcceptance.{accepted-run, run-accepted}
+use Rattle.properties.specs.LogReading.{log-valid}
+use Rattle.properties.specs.ReadBack.{laid-out}
 use Rattle.text.specs.Put.{Put}
 use Rattle.listing.specs.Ready.{LogReady}
 use Rattle.text.specs.Text.{refusedLine}

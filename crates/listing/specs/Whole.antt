@@ -11,8 +11,9 @@ use Rattle.laws.specs.BoolLaws.{choice}
 use Rattle.model.specs.Reader.{partAt}
 use Rattle.model.specs.Record.{recordLength}
 use Rattle.model.specs.Session.{startOf, countOf, logOf, run}
-use Rattle.properties.specs.Accepted.{accepted-run}
-use Rattle.properties.specs.Conditions.{Condition, recordConditions, recordsConditions, lastConditions, conditions, first, refusal-is}
+use Rattle.properties.specs.Conditions.{Condition, recordConditions, first}
+use Rattle.properties.specs.SessionConditions.{frameConditions, recordsConditions, lastConditions, sessionConditions}
+use Rattle.properties.specs.SessionAcceptance.{refusal-is, accepted-run}
 use Rattle.properties.specs.ReadBack.{laid-out}
 use Rattle.text.specs.Text.{decimal}
 use Rattle.text.specs.TextLaws.{decimal-few}
@@ -40,26 +41,18 @@ records-small (suc n) s i =
     (omega arith, (omega arith, (omega arith, (omega arith, (omega arith, tt))))) (records-small n s (i + recordLength (partAt s i)))
 
 pub refusal-small : (s log : List ℕ) → run s log .refusal < 10000
-refusal-small s log = rw (refusal-is s log) (first-small (conditions s log) all)
+refusal-small s log = rw (refusal-is s log) (first-small (sessionConditions s log) all)
   where
-    all : Small (conditions s log)
-    all = (
-      omega arith,
-      (
-        omega arith,
-        (
-          omega arith,
-          (
-            omega arith,
-            (
-              omega arith,
-              small-append (recordsConditions (countOf s) s (startOf s)) (lastConditions s log)
-                  (records-small (countOf s) s (startOf s)) (omega arith, (omega arith, tt)),
-            ),
-          ),
-        ),
-      ),
-    )
+    five : Small (frameConditions s)
+    five = (omega arith, (omega arith, (omega arith, (omega arith, (omega arith, tt)))))
+
+    rest : Small (recordsConditions (countOf s) s (startOf s) ++ lastConditions s log)
+    rest =
+        small-append (recordsConditions (countOf s) s (startOf s)) (lastConditions s log)
+        (records-small (countOf s) s (startOf s)) (omega arith, (omega arith, tt))
+
+    all : Small (sessionConditions s log)
+    all = small-append (frameConditions s) (recordsConditions (countOf s) s (startOf s) ++ lastConditions s log) five rest
 
 -- ---- the listing
 

@@ -18,7 +18,7 @@ use Rattle.model.specs.Reader.{recordsEnd, partAt, nextOf}
 use Rattle.model.specs.Record.{recordLength, decode}
 use Rattle.model.specs.Refusal.{sessionLength, sessionTrailer, startOutOfRange, tooManyRecords, fuseByte}
 use Rattle.model.specs.Session.{startOf, countOf, wrongLength, wrongTrailer, wrongStart, wrongCount, wrongFuses, frame, stopped, onDecoded, more, readFrom}
-use Rattle.secrecy.specs.Agree.{AgreeOutside}
+use Rattle.secrecy.specs.Secret.{AgreeOutside}
 use Rattle.properties.specs.AsCalls.{callOf, callsFrom}
 
 -- 2 to 5
@@ -52,7 +52,8 @@ module _ (hidden : ℕ → Bool) (in-card : (i : ℕ) → fuseAt ≤ i → hidde
   pub calls-same : (n i : ℕ) → fuseAt ≤ i → callsFrom n s₁ i ≡ callsFrom n s₂ i
   calls-same zero i h = refl
   calls-same (suc n) i h =
-      λ t. callOf (part-same i h t) ∷ (ap (λ (p : List ℕ). callsFrom n s₁ (i + recordLength p)) (part-same i h) ∙ calls-same n (i + recordLength (partAt s₂ i)) (omega arith)) t
+      let others = ap (λ (p : List ℕ). callsFrom n s₁ (i + recordLength p)) (part-same i h) ∙ calls-same n (i + recordLength (partAt s₂ i)) (omega arith) in
+      λ t. callOf (part-same i h t) ∷ others t
 
   -- ---- the frame
 
@@ -67,7 +68,8 @@ module _ (hidden : ℕ → Bool) (in-card : (i : ℕ) → fuseAt ≤ i → hidde
     byte-same k h = agree .same (length s₁ - k) (in-card (length s₁ - k) (omega arith)) ∙ ap (λ (n : ℕ). at s₂ (n - k)) (agree .long)
 
     rest-same : rest s₁ ≡ rest s₂
-    rest-same = rw (byte-same 2 (omega arith), byte-same 1 (omega arith), start-same, count-same, agree .long, agree .same fuseAt (in-card fuseAt (omega arith)))
+    rest-same =
+        rw (byte-same 2 (omega arith), byte-same 1 (omega arith), start-same, count-same, agree .long, agree .same fuseAt (in-card fuseAt (omega arith)))
 
   pub frame-same : frame s₁ ≡ frame s₂
   unfolding frame

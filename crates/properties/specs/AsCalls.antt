@@ -5,7 +5,7 @@ use mathlib.Core.List.{List, [], _∷_}
 use mathlib.Core.Path.{_≡_, refl, ap, subst, _∙_}
 use native.Mathlib.Nat.{le-refl}
 use native.Mathlib.Omega.{arith}
-use lib.ListN.{length, take, replicate, length-take, length-replicate}
+use lib.ListN.{take, replicate, length-take, length-replicate}
 use lib.Seq.{take-append-seam}
 use Rattle.model.specs.Volatile.{Volatile}
 use Rattle.model.specs.Command.{Command}
@@ -21,9 +21,11 @@ use Rattle.laws.specs.RecordLaws.{accepted, decode-fields, decode-front}
 use Rattle.laws.specs.Sane.{Good, check-good, good-after}
 use Rattle.model.specs.Session.{readFrom, all, kindOf, logged, after, entriesOf, endOf}
 use Rattle.model.specs.Single.{check, apply, command, replies, final}
-use Rattle.secrecy.specs.TwoRuns.{Along}
-use Rattle.properties.specs.SessionLaws.{Every, read-first, read-none}
-use Rattle.properties.specs.Conditions.{responseLength, decode-answer}
+use Rattle.secrecy.specs.Along.{Along}
+use Rattle.properties.specs.Conditions.{responseLength}
+use Rattle.properties.specs.AcceptedSession.{Every}
+use Rattle.properties.specs.SessionLaws.{read-first, read-none}
+use Rattle.properties.specs.ConditionsLaws.{decode-answer}
 
 abbrev pub callOf : List ℕ → Call
 callOf part = calling (take (recordLength part) part) (replicate (responseLength part) 0)

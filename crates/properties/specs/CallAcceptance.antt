@@ -12,9 +12,10 @@ use Rattle.model.specs.Record.{decode}
 use Rattle.model.specs.Session.{logged, after}
 use Rattle.model.specs.Single.{command}
 use Rattle.properties.specs.Conditions.{first, NoneApplies}
-use Rattle.properties.specs.EachRecord.{leaving}
 use Rattle.properties.specs.CallConditions.{callConditions}
-use Rattle.properties.specs.CallConditionsLaws.{refusal-first, call-numbered, zero-iff, carries}
+use Rattle.properties.specs.AcceptedSession.{leaving}
+use Rattle.properties.specs.ConditionsLaws.{zero-iff}
+use Rattle.properties.specs.CallConditionsLaws.{refusal-first, call-numbered, carries}
 
 module _ (c : List ℕ) (s : Volatile) (bytes space : List ℕ) where
   -- the refusal of a single command is the first that applies, in the paper's order; 0 where none does

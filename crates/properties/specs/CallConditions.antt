@@ -37,10 +37,21 @@ bytesBehind bytes = ltb (recordLength bytes) (length bytes)
 abbrev pub shortSpace : List ℕ → List ℕ → Bool
 shortSpace bytes space = ltb (length space) (responseLength bytes)
 
--- 11, 5, 12, the record's, 9, 10
-abbrev pub callConditions : List ℕ → Volatile → List ℕ → List ℕ → List Condition
-callConditions c s bytes space =
+-- those of the card and the state, before the record
+abbrev pub givenConditions : List ℕ → Volatile → List Condition
+givenConditions c s =
     when cardLength (wrongCardLength c)
     ∷ when fuseByte (wrongFuseByte c)
     ∷ when stateOutOfRange (wrongState s)
-    ∷ (recordConditions bytes ++ (when bytesLeft (bytesBehind bytes) ∷ when noSpace (shortSpace bytes space) ∷ []))
+    ∷ []
+
+-- those behind it
+abbrev pub endConditions : List ℕ → List ℕ → List Condition
+endConditions bytes space =
+    when bytesLeft (bytesBehind bytes)
+    ∷ when noSpace (shortSpace bytes space)
+    ∷ []
+
+-- 11, 5, 12, the record's, 9, 10
+abbrev pub callConditions : List ℕ → Volatile → List ℕ → List ℕ → List Condition
+callConditions c s bytes space = givenConditions c s ++ (recordConditions bytes ++ endConditions bytes space)

@@ -2,8 +2,7 @@
 -- and its command carried out.
 use Prim.Native.Nat.{ℕ, suc, _≤_}
 use mathlib.Core.Bool.{Bool, true, false, cond, not, _&&_, _||_}
-use mathlib.Core.List.{List, [], _∷_, _++_}
-use mathlib.Core.Logic.{_↔_}
+use mathlib.Core.List.{List, _++_}
 use mathlib.Core.Path.{_≡_, refl, sym, ap, _∙_}
 use native.Mathlib.Omega.{arith}
 use borrow.Author.Tests.{ltb-true, ltb-false, le-ltb, lt-ltb}
@@ -17,22 +16,15 @@ use Rattle.model.specs.Call as calls
 use Rattle.laws.specs.CallLaws.{carried-out}
 use Rattle.laws.specs.Effects.{answer-length}
 use Rattle.model.specs.Record.{recordLength, decode}
-use Rattle.model.specs.Refusal.{cardLength, fuseByte, stateOutOfRange, bytesLeft, noSpace}
 use Rattle.laws.specs.RecordLaws.{accepted}
 use Rattle.model.specs.Session.{onDecoded, logged, after}
 use Rattle.model.specs.Single.{activeBelow, stateInRange, checkOf, check, apply, admit, command}
 use Rattle.properties.specs.SessionLaws.{refusal-nonzero}
-use Rattle.properties.specs.Conditions.{Condition, when, recordConditions, responseLength, first, NoneApplies}
-use Rattle.properties.specs.Conditions.{first-append, Numbered, numbered-append, none-applies, none-first, first-record, decode-answer, some}
-use Rattle.properties.specs.EachRecord.{leaving}
-use Rattle.properties.specs.CallConditions.{wrongCardLength, wrongFuseByte, selectorAbove, wrongState, bytesBehind, shortSpace, callConditions}
-
--- the conditions before the record, and those behind it
-abbrev givenConditions : List ℕ → Volatile → List Condition
-givenConditions c s = when cardLength (wrongCardLength c) ∷ when fuseByte (wrongFuseByte c) ∷ when stateOutOfRange (wrongState s) ∷ []
-
-abbrev endConditions : List ℕ → List ℕ → List Condition
-endConditions bytes space = when bytesLeft (bytesBehind bytes) ∷ when noSpace (shortSpace bytes space) ∷ []
+use Rattle.properties.specs.Conditions.{recordConditions, responseLength, first, NoneApplies}
+use Rattle.properties.specs.ConditionsLaws.{first-append, Numbered, numbered-append, some, none-first, none-append}
+use Rattle.properties.specs.ConditionsLaws.{record-numbered, first-record, decode-answer}
+use Rattle.properties.specs.CallConditions.{wrongCardLength, wrongFuseByte, selectorAbove, wrongState, givenConditions, endConditions, callConditions}
+use Rattle.properties.specs.AcceptedSession.{leaving}
 
 -- ---- 12
 
@@ -105,20 +97,12 @@ refusal-first c s bytes space =
     (past-record c s bytes space (decode bytes) refl ∙ sym (first-append (recordConditions bytes) (endConditions bytes space) 0))
 
 pub call-numbered : (c : List ℕ) (s : Volatile) (bytes space : List ℕ) → Numbered (callConditions c s bytes space)
-call-numbered c s bytes space = (some 10, (some 4, (some 11, others)))
+call-numbered c s bytes space = (some _, (some _, (some _, others)))
   where
     others : Numbered (recordConditions bytes ++ endConditions bytes space)
-    others = numbered-append (recordConditions bytes) (endConditions bytes space) (some 7, (some 5, (some 7, (some 6, (some 7, tt))))) (some 8, (some 9, tt))
+    others = numbered-append (recordConditions bytes) (endConditions bytes space) (record-numbered bytes) (some _, (some _, tt))
 
 -- ---- where none applies
-
--- a number that is the first of a list is 0 exactly when none applies
-pub zero-iff : (xs : List Condition) → Numbered xs → (n : ℕ) → n ≡ first xs 0 → (n ≡ 0) ↔ NoneApplies xs
-zero-iff xs p n e = ((λ z. none-applies xs p (sym e ∙ z)), (λ c. e ∙ none-first xs c))
-
-none-append : (xs ys : List Condition) → NoneApplies (xs ++ ys) → NoneApplies xs × NoneApplies ys
-none-append [] ys n = (tt, n)
-none-append (x ∷ xs) ys n = let r = none-append xs ys (n .1) in ((n .0, r .0), r .1)
 
 -- the card and the state pass
 checks-pass : (c : List ℕ) (s : Volatile) → NoneApplies (givenConditions c s) → check c s ≡ 0

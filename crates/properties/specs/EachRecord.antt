@@ -1,16 +1,14 @@
--- A single command does what the session does: with the card and the state that an accepted session has reached before record k,
--- the bytes of record k and enough space, it gives the response that the log holds for k, and leaves the card and the state before
--- record k + 1.
+-- Of record k of an accepted session: its bytes alone are the record of command k, which a single command carries out.
 use Prim.Native.Nat.{ℕ, zero, suc, _+_, _≤_, _<_}
 use mathlib.Core.List.{List, [], _∷_}
 use mathlib.Core.Path.{_≡_, refl, sym, ap, _∙_}
 use native.Mathlib.Nat.{le-of-suc-le-suc}
 use native.Mathlib.Omega.{arith}
-use lib.ListN.{length, take, length-take}
+use lib.ListN.{length, length-take}
 use Rattle.model.specs.Lists.{Bytes}
 use Rattle.model.specs.Volatile.{Volatile}
 use Rattle.model.specs.Command.{Command}
-use Rattle.model.specs.Call.{Powered, reporting, Called, calling, replying, whole}
+use Rattle.model.specs.Call.{Powered, calling, whole}
 use Rattle.laws.specs.CallLaws.{Admitted, carried-out}
 use Rattle.model.specs.Log.{find, answerIn}
 use Rattle.model.specs.Reader.{recordsEnd, partAt, nextOf}
@@ -19,14 +17,11 @@ use Rattle.laws.specs.RecordLaws.{Fields, accepted, decode-front}
 use Rattle.laws.specs.Sane.{Good, check-good, good-after}
 use Rattle.model.specs.Session.{startOf, countOf, readFrom, all, after, logOf, initial}
 use Rattle.model.specs.Single.{check, apply, command}
-use Rattle.properties.specs.SessionLaws.{Every, read-first}
-use Rattle.properties.specs.Conditions.{placePast}
-use Rattle.properties.specs.Accepted.{Accepts, framed-well, card-good}
-use Rattle.properties.specs.ReadBack.{reached, commandAt, all-fields, log-answer}
-
--- the bytes of the record at a place
-abbrev pub recordAt : List ℕ → ℕ → List ℕ
-recordAt s i = take (recordLength (partAt s i)) (partAt s i)
+use Rattle.properties.specs.SessionConditions.{placePast}
+use Rattle.properties.specs.AcceptedSession.{Accepts, Every, commandAt, reached, recordAt, leaving}
+use Rattle.properties.specs.SessionLaws.{read-first}
+use Rattle.properties.specs.AcceptedSessionLaws.{framed-well, card-good}
+use Rattle.properties.specs.ReadBack.{all-fields, answer-back}
 
 -- record k is command k, and its bytes alone are that record
 pub next-is : (n : ℕ) (s : List ℕ) (i : ℕ) (ks : List Command) (j : ℕ) → readFrom n s i ≡ all ks j → (k : ℕ) → k < n
@@ -40,7 +35,8 @@ next-is (suc n) s i ks j e (suc k) h =
     let l : recordLength (partAt s i) ≡ f .size = accepted (partAt s i) (f .command) (f .size) (f .next) .size in
     rw (f .list, l) (next-is n s (i + f .size) (f .others) j (f .rest) k (le-of-suc-le-suc h))
 
-pub record-is : (s : List ℕ) (i : ℕ) (k : Command) → nextOf s i ≡ whole k (recordLength (partAt s i)) → decode (recordAt s i) ≡ whole k (recordLength (partAt s i))
+pub record-is : (s : List ℕ) (i : ℕ) (k : Command) → nextOf s i ≡ whole k (recordLength (partAt s i))
+    → decode (recordAt s i) ≡ whole k (recordLength (partAt s i))
 record-is s i k e = decode-front (partAt s i) k (recordLength (partAt s i)) e
 
 -- what is reached before record k + 1 is what command k leaves
@@ -49,23 +45,20 @@ reached-after [] m k h = absurd (let z : ⊥ = omega arith in z)
 reached-after (x ∷ ks) m zero h = refl
 reached-after (x ∷ ks) m (suc k) h = reached-after ks (after m x) k (le-of-suc-le-suc h)
 
-reached-good : (ks : List Command) (m : Powered Volatile) (k : ℕ) → Every Fields ks → Good (m .card) (m .state) → Good (reached ks m k .card) (reached ks m k .state)
+reached-good : (ks : List Command) (m : Powered Volatile) (k : ℕ) → Every Fields ks → Good (m .card) (m .state)
+    → Good (reached ks m k .card) (reached ks m k .state)
 reached-good ks m zero f g = g
 reached-good [] m (suc k) f g = g
 reached-good (x ∷ ks) m (suc k) f g = reached-good ks (after m x) k (f .1) (good-after (m .card) (m .state) x (f .0) g)
 
--- what a single command leaves that gives a response
-abbrev pub leaving : Powered Volatile → List ℕ → List ℕ → Called Volatile
-leaving m answer space = record { card = m .card; reply = replying space (reporting (m .state) answer) }
-
 module _ (s log : List ℕ) (ks : List Command) (bytes : Bytes s) (a : Accepts s log ks) where
-  pub single : (k : ℕ) → k < countOf s → (space : List ℕ) → length (answerIn (logOf s ks) (find (logOf s ks) k)) ≤ length space
+  pub one-record : (k : ℕ) → k < countOf s → (space : List ℕ) → length (answerIn (logOf s ks) (find (logOf s ks) k)) ≤ length space
       → command (reached ks (initial s) k .card) (reached ks (initial s) k .state) (calling (recordAt s (placePast k s (startOf s))) space)
       ≡ leaving (reached ks (initial s) (suc k)) (answerIn (logOf s ks) (find (logOf s ks) k)) space
-  single k h space room =
+  one-record k h space room =
       let m : Powered Volatile = reached ks (initial s) k in
       let r : List ℕ = recordAt s (placePast k s (startOf s)) in
-      let q = log-answer s log ks bytes a k h in
+      let q = answer-back s log ks bytes a k h in
       let fields = all-fields s log ks bytes a in
       let admitted : Admitted check decode apply (m .card) (m .state) (calling r space) (commandAt ks k) (recordLength (partAt s (placePast k s (startOf s)))) =
       record {

@@ -1,5 +1,5 @@
--- The edges of a session's length: 2,185 bytes without records log 2,185 bytes; fewer give 1.
-use Prim.Native.Nat.{ℕ, _+_, _-_, _≤_, _<_}
+-- Of the edges of a session's length: fewer than 2,185 bytes, and 2,185 without records.
+use Prim.Native.Nat.{ℕ, _+_, _≤_, _<_}
 use mathlib.Core.Bool.{true}
 use mathlib.Core.List.{List, [], _∷_, _++_}
 use mathlib.Core.Path.{_≡_, ap, _∙_}
@@ -15,21 +15,17 @@ use Rattle.laws.specs.NumberLaws.{number-append}
 use Rattle.model.specs.Refusal.{sessionLength}
 use Rattle.model.specs.Session.{cardOf, startOf, countOf, frame, rejected, run}
 use Rattle.model.specs.Single.{isFuseByte}
-use Rattle.properties.specs.Accepted.{well-framed, accepting, run-accepted}
+use Rattle.properties.specs.AcceptedSession.{accepting, empty}
+use Rattle.properties.specs.AcceptedSessionLaws.{well-framed, accepted-log}
 
-pub short : (s space : List ℕ) → length s < leastSession → run s space ≡ rejected sessionLength space
+pub short-rejected : (s space : List ℕ) → length s < leastSession → run s space ≡ rejected sessionLength space
 unfolding run frame
-short s space h = rw (lt-leb _ _ h)
+short-rejected s space h = rw (lt-leb _ _ h)
 
--- a card and a trailer that counts no records
-abbrev pub empty : List ℕ → List ℕ
-empty card = card ++ (bytesOf 4 cardSize ++ (bytesOf 2 0 ++ (0x53 ∷ 0x45 ∷ [])))
-
--- the log holds the card and a trailer that counts no answers
-pub nothing-run : (card space : List ℕ) → length card ≡ cardSize → isFuseByte (at card fuseAt) ≡ true → leastSession ≤ length space
+pub empty-log : (card space : List ℕ) → length card ≡ cardSize → isFuseByte (at card fuseAt) ≡ true → leastSession ≤ length space
     → run (empty card) space ≡ accepting (card ++ logTrailer 0 0) space
-nothing-run card space l f h =
-    run-accepted s space []
+empty-log card space l f h =
+    accepted-log s space []
     (record {
       frames = well;
       reads = rw (count, start, long);

@@ -1,5 +1,5 @@
--- The check accepts exactly the logs that are laid out as the paper says: the writing of some entries within the limits, a card
--- and the trailer. The other direction is Written's.
+-- Of the check of a log: a log that is accepted is the writing of some entries within the limits, a card and the trailer. The other
+-- direction is Written's.
 use Prim.Native.Nat.{ℕ, zero, suc, _+_, _-_, _≤_, _<_}
 use mathlib.Core.Bool.{true}
 use mathlib.Core.List.{List, [], _∷_, _++_}
@@ -15,7 +15,8 @@ use Rattle.model.specs.Lists.{at, Bytes}
 use Rattle.laws.specs.BoolLaws.{and-left, and-right}
 use Rattle.model.specs.Numbers.{bytesOf}
 use Rattle.laws.specs.NumberLaws.{bytes-number}
-use Rattle.model.specs.Log.{Entry, entryBytes, entriesBytes, logTrailer, AllFit, LaidOut, countOf, offsetOf, lengthAt, nextEntry, entryOk, entriesOk, trailerOk, valid}
+use Rattle.model.specs.Log.{Entry, entryBytes, entriesBytes, logTrailer, AllFit, LaidOut}
+use Rattle.model.specs.Log.{countOf, offsetOf, lengthAt, nextEntry, entryOk, entriesOk, trailerOk, valid}
 use Rattle.properties.specs.LogLaws.{Entered, entered, Trailed, trailed}
 use Rattle.properties.specs.Written.{written-valid}
 
@@ -142,6 +143,5 @@ module _ (l : List ℕ) (bytes : Bytes l) where
               ∙ (λ i. sym front-bytes i ++ (cardOf ++ d i));
         }
 
--- a log of bytes is accepted exactly when it is laid out so
-pub accepted-iff : (l : List ℕ) → Bytes l → (valid l ≡ true) ↔ ((es : List Entry) × (card : List ℕ) × LaidOut es card l)
-accepted-iff l b = (λ v. (entriesOf l b v, cardOf l b v, laid-out l b v), λ w. written-valid (w .0) (w .1) l (w .2))
+pub exactly : (l : List ℕ) → Bytes l → (valid l ≡ true) ↔ ((es : List Entry) × (card : List ℕ) × LaidOut es card l)
+exactly l b = (λ v. (entriesOf l b v, cardOf l b v, laid-out l b v), λ w. written-valid (w .0) (w .1) l (w .2))

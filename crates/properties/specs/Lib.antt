@@ -1,16 +1,33 @@
+-- The theorems about logs, sessions and single commands over the model.
+
+-- the words of their statements
+pub mod Conditions
+pub mod SessionConditions
+pub mod CallConditions
+pub mod AcceptedSession
+pub mod SessionSecret
+-- the final statements
+pub mod SessionAcceptance
+pub mod CallAcceptance
+pub mod Refused
+pub mod OneCommand
+pub mod LogReading
+pub mod SessionSecrecy
+-- what proves them: of sessions and of refusals
+pub mod SessionLaws
+pub mod AcceptedSessionLaws
+pub mod Edges
+pub mod RefusedLaws
+pub mod ConditionsLaws
+pub mod SessionConditionsLaws
+pub mod CallConditionsLaws
+-- of the log, and of a record of a session by itself
 pub mod LogLaws
 pub mod Written
 pub mod Layout
-pub mod SessionLaws
-pub mod Accepted
-pub mod Refused
-pub mod Conditions
 pub mod ReadBack
 pub mod EachRecord
-pub mod CallConditions
-pub mod CallConditionsLaws
-pub mod CallAcceptance
+-- of demand 3 for sessions
 pub mod AsCalls
 pub mod Alike
-pub mod SessionSecrecy
-pub mod Edges
+pub mod SessionSecrecyLaws

@@ -87,7 +87,8 @@ unfolding find
 answered l k from n e = go (valid l) (ltb k (countOf l)) refl refl e
   where
     go : (v u : Bool) → valid l ≡ v → ltb k (countOf l) ≡ u
-        → cond (not v) (missing notALog) (cond (not u) (missing noSuchAnswer) (located (entryPlace k l 0 + 3) (lengthAt l (entryPlace k l 0)))) ≡ located from n → Answered l k from n
+        → cond (not v) (missing notALog) (cond (not u) (missing noSuchAnswer) (located (entryPlace k l 0 + 3) (lengthAt l (entryPlace k l 0))))
+        ≡ located from n → Answered l k from n
     go true true p q e = record { accepted = p; counted = ltb-true _ _ q; start = cc; size = cc }
     go true false p q e = absurd (let z : _≡_ {A = ℕ} 0 1 = cc in let w : ⊥ = omega arith in w)
     go false u p q e = absurd (let z : _≡_ {A = ℕ} 0 1 = cc in let w : ⊥ = omega arith in w)

@@ -1,5 +1,4 @@
--- The log reads back: the log of an accepted session is accepted by the log check, has as many answers as the session has
--- records, answer k is the response of record k, and its card is the final card.
+-- Of the log of an accepted session: it is laid out from the session's entries and its final card, so it reads back.
 use Prim.Native.Nat.{ℕ, zero, suc, _+_, _-_, _≤_, _<_}
 use mathlib.Core.Bool.{Bool, true, false}
 use mathlib.Core.List.{List, [], _∷_}
@@ -8,12 +7,12 @@ use native.Mathlib.Nat.{le-of-suc-le-suc}
 use native.Mathlib.Omega.{arith}
 use borrow.Author.Tests.{ltb-true, ltb-false}
 use lib.Dec.{ltb}
-use lib.ListN.{length, take, drop, getD, List·getD-eq-default, length-take}
+use lib.ListN.{length, take, drop, List·getD-eq-default, length-take}
 use lib.Seq.{getD-take, getD-drop}
 use Rattle.model.specs.Sizes.{cardSize}
 use Rattle.model.specs.Lists.{at, Bytes}
 use Rattle.model.specs.Volatile.{Volatile}
-use Rattle.model.specs.Command.{Command, powerCycle}
+use Rattle.model.specs.Command.{Command}
 use Rattle.model.specs.Call.{Powered}
 use Rattle.model.specs.Log.{LaidOut, valid, find, missing, answerIn}
 use Rattle.model.specs.Log as log
@@ -22,19 +21,12 @@ use Rattle.laws.specs.RecordLaws.{Fields, decode-fields}
 use Rattle.model.specs.Refusal.{noSuchAnswer}
 use Rattle.laws.specs.Sane.{Good}
 use Rattle.model.specs.Session.{startOf, countOf, logged, after, entriesOf, endOf, logOf, initial}
-use Rattle.model.specs.Single.{apply}
 use Rattle.properties.specs.Written.{responseOf, written-valid, written-answer, written-none, written-card, count-is}
 use Rattle.properties.specs.SessionLaws.{Logs, decode-logs, Readings, readings, end-good, entries-length, entries-fit}
-use Rattle.properties.specs.Accepted.{Framed, framed-well, card-good, Accepts}
+use Rattle.properties.specs.AcceptedSession.{Accepts, reached, commandAt}
+use Rattle.properties.specs.AcceptedSessionLaws.{Framed, framed-well, card-good}
 
--- ---- the card and the state that a list of commands has reached before command k, and that command
-
-abbrev pub reached : List Command → Powered Volatile → ℕ → Powered Volatile
-reached ks m k = endOf (take k ks) m
-
-abbrev pub commandAt : List Command → ℕ → Command
-commandAt ks k = getD ks k powerCycle
-
+-- what command k logs
 pub response-is : (ks : List Command) (m : Powered Volatile) (k : ℕ) → k < length ks
     → responseOf (entriesOf ks m) k ≡ logged (reached ks m k) (commandAt ks k) .response
 response-is [] m k h = absurd (let z : ⊥ = omega arith in z)
@@ -49,7 +41,9 @@ part-bytes s b i j = go (ltb j (recordsEnd (length s) - i)) refl
     go : (t : Bool) → ltb j (recordsEnd (length s) - i) ≡ t → at (partAt s i) j < 256
     go true e = rw (getD-take (recordsEnd (length s) - i) (drop i s) j 0 (ltb-true _ _ e), getD-drop i s j 0) (b (i + j))
     go false e =
-        let l : length (partAt s i) ≤ j = (let a = length-take (recordsEnd (length s) - i) (drop i s) in let c : recordsEnd (length s) - i ≤ j = ltb-false j (recordsEnd (length s) - i) e in omega arith) in
+        let a = length-take (recordsEnd (length s) - i) (drop i s) in
+        let c : recordsEnd (length s) - i ≤ j = ltb-false j (recordsEnd (length s) - i) e in
+        let l : length (partAt s i) ≤ j = omega arith in
         rw (List·getD-eq-default (partAt s i) 0 l) (omega arith)
 
 module _ (s space : List ℕ) (ks : List Command) (bytes : Bytes s) (a : Accepts s space ks) where
@@ -62,7 +56,8 @@ module _ (s space : List ℕ) (ks : List Command) (bytes : Bytes s) (a : Accepts
 
   all-logs : Readings Logs (countOf s) s ks (recordsEnd (length s))
   all-logs =
-      readings Logs s (λ i k m e. decode-logs (partAt s i) (part-bytes s bytes i) k m e) (countOf s) (startOf s) ks (recordsEnd (length s)) (framed .high) (a .reads)
+      readings Logs s (λ i k m e. decode-logs (partAt s i) (part-bytes s bytes i) k m e)
+      (countOf s) (startOf s) ks (recordsEnd (length s)) (framed .high) (a .reads)
 
   pub final-good : Good (endOf ks (initial s) .card) (endOf ks (initial s) .state)
   final-good = end-good ks (initial s) (all-fields .every) (card-good s framed)
@@ -77,25 +72,21 @@ module _ (s space : List ℕ) (ks : List Command) (bytes : Bytes s) (a : Accepts
         same = refl;
       }
 
-  -- the log is accepted
-  pub log-valid : valid (logOf s ks) ≡ true
-  log-valid = written-valid (entriesOf ks (initial s)) (endOf ks (initial s) .card) (logOf s ks) laid-out
+  pub valid-back : valid (logOf s ks) ≡ true
+  valid-back = written-valid (entriesOf ks (initial s)) (endOf ks (initial s) .card) (logOf s ks) laid-out
 
-  -- it has as many answers as the session has records
-  pub log-count : log.countOf (logOf s ks) ≡ countOf s
-  log-count = count-is (entriesOf ks (initial s)) (endOf ks (initial s) .card) (logOf s ks) laid-out ∙ entries-length ks (initial s) ∙ all-fields .number
+  pub count-back : log.countOf (logOf s ks) ≡ countOf s
+  count-back = count-is (entriesOf ks (initial s)) (endOf ks (initial s) .card) (logOf s ks) laid-out ∙ entries-length ks (initial s) ∙ all-fields .number
 
-  -- answer k is the response of record k
-  pub log-answer : (k : ℕ) → k < countOf s → answerIn (logOf s ks) (find (logOf s ks) k) ≡ apply (reached ks (initial s) k .card) (reached ks (initial s) k .state) (commandAt ks k) .report .answer
-  log-answer k h =
+  pub answer-back : (k : ℕ) → k < countOf s
+      → answerIn (logOf s ks) (find (logOf s ks) k) ≡ logged (reached ks (initial s) k) (commandAt ks k) .response
+  answer-back k h =
       written-answer (entriesOf ks (initial s)) (endOf ks (initial s) .card) (logOf s ks) laid-out k (rw (entries-length ks (initial s), all-fields .number) h)
       ∙ response-is ks (initial s) k (rw (all-fields .number) h)
 
-  -- and there is no other
-  pub log-none : (k : ℕ) → countOf s ≤ k → find (logOf s ks) k ≡ missing noSuchAnswer
-  log-none k h =
+  pub none-back : (k : ℕ) → countOf s ≤ k → find (logOf s ks) k ≡ missing noSuchAnswer
+  none-back k h =
       written-none (entriesOf ks (initial s)) (endOf ks (initial s) .card) (logOf s ks) laid-out k (rw (entries-length ks (initial s), all-fields .number) h)
 
-  -- its card is the final card
-  pub log-card : take cardSize (drop (log.offsetOf (logOf s ks)) (logOf s ks)) ≡ endOf ks (initial s) .card
-  log-card = written-card (entriesOf ks (initial s)) (endOf ks (initial s) .card) (logOf s ks) laid-out
+  pub card-back : take cardSize (drop (log.offsetOf (logOf s ks)) (logOf s ks)) ≡ endOf ks (initial s) .card
+  card-back = written-card (entriesOf ks (initial s)) (endOf ks (initial s) .card) (logOf s ks) laid-out

@@ -22,15 +22,19 @@ use Rattle.laws.specs.KindLaws.{each-kind}
 use Rattle.laws.specs.RecordLaws.{accepted, Fields}
 use Rattle.laws.specs.Sane.{Good, card-length, good-after}
 use Rattle.model.specs.Session.{Read, stopped, all, onDecoded, more, readFrom, kindOf, after, entriesOf, endOf}
+use Rattle.properties.specs.AcceptedSession.{Every}
 
 -- ---- one record
 
 -- a decoder's refusal is not 0
 pub refusal-nonzero : (part : List ℕ) (n : ℕ) → decode part ≡ refused n → n ≡ 0 → ⊥
 unfolding decode
-refusal-nonzero part n e z = go (eqb (length part) 0) (not (known (at part 0))) (ltb (length part) (dataAt part)) (not (inRange (at part 0) (at part 1) (at part 2))) (ltb (length part) (recordLength part)) _ _ e
+refusal-nonzero part n e z =
+    go (eqb (length part) 0) (not (known (at part 0))) (ltb (length part) (dataAt part))
+    (not (inRange (at part 0) (at part 1) (at part 2))) (ltb (length part) (recordLength part)) _ _ e
   where
-    go : (a b c d f : Bool) (k : Command) (m : ℕ) → cond a (refused 8) (cond b (refused 6) (cond c (refused 8) (cond d (refused 7) (cond f (refused 8) (whole k m))))) ≡ refused n → ⊥
+    go : (a b c d f : Bool) (k : Command) (m : ℕ)
+        → cond a (refused 8) (cond b (refused 6) (cond c (refused 8) (cond d (refused 7) (cond f (refused 8) (whole k m))))) ≡ refused n → ⊥
     go true b c d f k m e = let q : 8 ≡ n = cc in omega arith
     go false true c d f k m e = let q : 6 ≡ n = cc in omega arith
     go false false true d f k m e = let q : 8 ≡ n = cc in omega arith
@@ -72,7 +76,8 @@ made-logs a n xs h =
 pub decode-logs : (part : List ℕ) → Bytes part → (k : Command) (n : ℕ) → decode part ≡ whole k n → Logs k
 decode-logs part b k n e =
     let a = accepted part k n e in
-    rw (a .command) at (made-logs (at part 1) (at part 2) (take (dataLength (at part 0) (at part 2)) (drop (dataAt part) part)) (b 2) (at part 0) (a .kind) (a .fields))
+    let xs : List ℕ = take (dataLength (at part 0) (at part 2)) (drop (dataAt part) part) in
+    rw (a .command) at (made-logs (at part 1) (at part 2) xs (b 2) (at part 0) (a .kind) (a .fields))
 
 -- ---- the records of a session
 
@@ -107,11 +112,6 @@ read-count zero s i ks j e = rw (read-none s i ks j e .0)
 read-count (suc n) s i ks j e =
     let f = read-first n s i ks j e in
     rw (f .list) (ap suc (read-count n s (i + f .size) (f .others) j (f .rest)))
-
--- a property of every command of a list
-abbrev pub Every : (Command → Type 0) → List Command → Type 0
-Every P [] = Unit {0}
-Every P (k ∷ ks) = P k × Every P ks
 
 pub record Readings (P : Command → Type 0) (n : ℕ) (s : List ℕ) (ks : List Command) (j : ℕ) : Type 0 where
   pub number : length ks ≡ n
@@ -152,7 +152,8 @@ end-length [] m = refl
 end-length (k ∷ ks) m = end-length ks (after m k) ∙ card-length at88sc1608 (m .card) (m .state) k
 
 -- an entry's length depends on its command alone
-pub entry-length : (k : Command) (ks : List Command) (m : Powered Volatile) → length (entriesBytes (entriesOf (k ∷ ks) m)) ≡ 3 + answerLength at88sc1608 k + length (entriesBytes (entriesOf ks (after m k)))
+pub entry-length : (k : Command) (ks : List Command) (m : Powered Volatile)
+    → length (entriesBytes (entriesOf (k ∷ ks) m)) ≡ 3 + answerLength at88sc1608 k + length (entriesBytes (entriesOf ks (after m k)))
 entry-length k ks m = simp (length-append, answer-length at88sc1608 (m .card) (m .state) k) (omega arith)
 
 pub entries-long : (ks : List Command) (m₁ m₂ : Powered Volatile) → length (entriesBytes (entriesOf ks m₁)) ≡ length (entriesBytes (entriesOf ks m₂))

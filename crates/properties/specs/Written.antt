@@ -1,6 +1,6 @@
 -- A log that was written is accepted, and every answer that was written is given back.
 use Prim.Native.Nat.{ℕ, zero, suc, _+_, _-_, _*_, _≤_, _<_}
-use mathlib.Core.Bool.{Bool, true, false, cond, _&&_}
+use mathlib.Core.Bool.{true, _&&_}
 use mathlib.Core.List.{List, [], _∷_, _++_, append-assoc}
 use mathlib.Core.Path.{_≡_, sym, ap, _∙_}
 use native.Mathlib.Nat.{add-zero, le-of-suc-le-suc}
@@ -15,7 +15,8 @@ use Rattle.laws.specs.BoolLaws.{and-right}
 use Rattle.model.specs.Numbers.{bytesOf, numberAt}
 use Rattle.laws.specs.KindLaws.{each-row}
 use Rattle.laws.specs.NumberLaws.{number-append, number-bytes}
-use Rattle.model.specs.Log.{Entry, entryBytes, entriesBytes, logTrailer, AllFit, LaidOut, countOf, offsetOf, lengthAt, nextEntry, entryOk, entriesOk, valid, entryPlace, find, missing, answerIn}
+use Rattle.model.specs.Log.{Entry, entryBytes, entriesBytes, logTrailer, AllFit, LaidOut}
+use Rattle.model.specs.Log.{countOf, offsetOf, lengthAt, nextEntry, entryOk, entriesOk, valid, entryPlace, find, missing, answerIn}
 use Rattle.model.specs.Record.{Kind, kinds, lengthFits}
 use Rattle.model.specs.Refusal.{noSuchAnswer}
 use Rattle.properties.specs.LogLaws.{entry-well, Trailed, trailer-well}
@@ -170,6 +171,12 @@ module _ (es : List Entry) (card l : List ℕ) (w : LaidOut es card l) where
       let e : length l - 4 ≡ offset + cardSize + 4 = omega arith in
       ap (λ (i : ℕ). numberAt l i 2) e ∙ trailer-number 4 2 ∙ number-bytes 2 (length es) (0x4C ∷ 0x4F ∷ []) (omega arith)
 
+  fuse-is : at l (offset + fuseAt) ≡ at card fuseAt
+  fuse-is =
+      ap (λ (x : List ℕ). at x (offset + fuseAt)) (w .same)
+      ∙ getD-append-add (entriesBytes es) (card ++ logTrailer offset (length es)) fuseAt 0
+      ∙ List·getD-append card (logTrailer offset (length es)) 0 fuseAt (let n = w .long in omega arith)
+
   trailer-is : Trailed l
   trailer-is =
       let a = log-length in
@@ -181,7 +188,7 @@ module _ (es : List Entry) (card l : List ℕ) (w : LaidOut es card l) where
         second = ap (at l) e₁ ∙ trailer-byte 7;
         few = rw count-is (w .few);
         meets = rw offset-is (sym a);
-        stage = rw (offset-is, w .same, getD-append-add (entriesBytes es) (card ++ logTrailer offset (length es)) fuseAt 0, List·getD-append card (logTrailer offset (length es)) 0 fuseAt (omega arith)) (w .stage);
+        stage = rw (offset-is, fuse-is) (w .stage);
       }
 
   entries-are : entriesOk (length es) l 0 offset ≡ true

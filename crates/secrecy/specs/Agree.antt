@@ -1,4 +1,4 @@
--- Two cards that agree outside some places, and stores into both.
+-- Stores into two cards that agree outside some places.
 use Prim.Native.Nat.{ℕ, suc}
 use mathlib.Core.Bool.{Bool, true, false, cond, _&&_}
 use mathlib.Core.List.{List, [], _∷_}
@@ -9,11 +9,7 @@ use lib.ListN.{length, set, length-set}
 use Rattle.model.specs.Lists.{at, stores}
 use Rattle.laws.specs.ListLaws.{at-set}
 use Rattle.laws.specs.BoolLaws.{and-left}
-
--- the cards are equally long and hold the same at every place that is not hidden
-pub record AgreeOutside (hidden : ℕ → Bool) (c₁ c₂ : List ℕ) : Type 0 where
-  pub long : length c₁ ≡ length c₂
-  pub same : (i : ℕ) → hidden i ≡ false → at c₁ i ≡ at c₂ i
+use Rattle.secrecy.specs.Secret.{AgreeOutside}
 
 module _ (hidden : ℕ → Bool) where
   -- a store into both cards, of equal values where the place is not hidden

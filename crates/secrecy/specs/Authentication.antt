@@ -17,10 +17,9 @@ use Rattle.laws.specs.AccessLaws.{fuse-rule, register-rule, zone-read}
 use Rattle.model.specs.Record.{decode}
 use Rattle.model.specs.Device.{Counter, ofPassword, ofAuthentication, counterPlace}
 use Rattle.laws.specs.Effects.{Move, stays, powers, resets, selects, opens, closes, begins, grants, denies}
-use Rattle.secrecy.specs.Agree.{AgreeOutside}
 use Rattle.secrecy.specs.Unwinding.{Open}
 use Rattle.secrecy.specs.Flow.{Confines, Allows, indistinguishable}
-use Rattle.secrecy.specs.Secret.{Sealed, register, inZone, AcceptsNot, Throughout, Indistinguishable}
+use Rattle.secrecy.specs.Secret.{Sealed, register, inZone, AgreeOutside, AcceptsNot, Throughout, Indistinguishable}
 use Rattle.secrecy.specs.Rights.{rule-kept, last-stage}
 
 abbrev secret : ℕ → Bool

@@ -13,16 +13,16 @@ use Rattle.model.specs.Lists.{at, sameList}
 use Rattle.laws.specs.ListLaws.{sameList-refl, at-set-other}
 use Rattle.laws.specs.BoolLaws.{and-left, and-right}
 use Rattle.model.specs.Volatile.{Volatile, powerUp}
-use Rattle.model.specs.Command.{Command, powerCycle, reset, select, readZone, writeZone, readConfiguration, writeConfiguration, readFuses, writeFuses, verifyPassword, beginAuthentication, verifyAuthentication}
+use Rattle.model.specs.Command.{Command, powerCycle, reset, select, readZone, writeZone, readConfiguration, writeConfiguration}
+use Rattle.model.specs.Command.{readFuses, writeFuses, verifyPassword, beginAuthentication, verifyAuthentication}
 use Rattle.model.specs.Call.{Call, Decoded, refused, whole, Powered, powered, Reply}
 use Rattle.model.specs.Call as calls
 use Rattle.model.specs.At88sc1608.{registerAt, passwordByte}
 use Rattle.model.specs.Record.{decode}
 use Rattle.model.specs.Computed.{computed}
 use Rattle.model.specs.Single.{check, apply, admit, replies, final}
-use Rattle.secrecy.specs.Agree.{AgreeOutside}
-use Rattle.secrecy.specs.TwoRuns.{Along}
-use Rattle.secrecy.specs.Secret.{password, inZone, inZoneOrPasswords, PresentsNeither, AcceptsNot, Indistinguishable}
+use Rattle.secrecy.specs.Along.{Along}
+use Rattle.secrecy.specs.Secret.{password, inZone, inZoneOrPasswords, AgreeOutside, PresentsNeither, AcceptsNot, Indistinguishable}
 use Rattle.secrecy.specs.CardSecrecy.{read-password, authentication-demanded}
 
 -- ---- the conditions as tests
@@ -151,7 +151,9 @@ pub read-example : Indistinguishable (inZoneOrPasswords 2 3) readCalls readCard 
 read-example =
     read-password 2 (omega arith) readCard readCard′ (record { long = refl; blown = refl }) (record { long = refl; blown = refl }) refl
     (agree-set _ readCard _ (passwordByte 3 0) 0x77 (agree-set _ readCard readCard 512 0x22 (agree-self _ readCard) refl) refl)
-    readCalls (along (presentsNeither 3 readCard readCard′) (PresentsNeither 3 readCard readCard′) (presents-neither 3 readCard readCard′) readCalls (powered readCard powerUp) read-clean)
+    readCalls
+    (along (presentsNeither 3 readCard readCard′) (PresentsNeither 3 readCard readCard′) (presents-neither 3 readCard readCard′)
+    readCalls (powered readCard powerUp) read-clean)
 
 pub read-refusals : refusals readCalls readCard ≡ 0 ∷ 0 ∷ 0 ∷ 0 ∷ 7 ∷ 9 ∷ 0 ∷ 0 ∷ 0 ∷ 0 ∷ 10 ∷ []
 unfolding computed
@@ -200,7 +202,8 @@ auth-clean = refl
 pub auth-example : Indistinguishable (inZone 1) authCalls authCard authCard′
 auth-example =
     authentication-demanded 1 (omega arith) authCard authCard′ (record { long = refl; blown = refl }) (record { long = refl; blown = refl }) refl
-    (agree-set _ authCard authCard 256 0x22 (agree-self _ authCard) refl) authCalls (along acceptsNot AcceptsNot accepts-not authCalls (powered authCard powerUp) auth-clean)
+    (agree-set _ authCard authCard 256 0x22 (agree-self _ authCard) refl)
+    authCalls (along acceptsNot AcceptsNot accepts-not authCalls (powered authCard powerUp) auth-clean)
 
 pub auth-refusals : refusals authCalls authCard ≡ 0 ∷ 0 ∷ 0 ∷ 0 ∷ 0 ∷ 0 ∷ 8 ∷ 7 ∷ 0 ∷ []
 unfolding computed

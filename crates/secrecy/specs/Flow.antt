@@ -16,9 +16,10 @@ use Rattle.model.specs.Apply.{rules, password, apply}
 use Rattle.model.specs.Single.{isFuseByte, stateInRange, checkOf}
 use Rattle.laws.specs.Effects.{Move, moves, answer-length}
 use Rattle.laws.specs.Sane.{Untouched, keeps}
-use Rattle.secrecy.specs.Agree.{AgreeOutside}
+use Rattle.secrecy.specs.Along.{Along}
+use Rattle.secrecy.specs.Secret.{AgreeOutside}
 use Rattle.secrecy.specs.Unwinding.{Open, rules-same, unwind}
-use Rattle.secrecy.specs.TwoRuns.{Along, list-same}
+use Rattle.secrecy.specs.TwoRuns.{list-same}
 
 -- Laws of a device with rule bytes ρ, while the state is locked.
 pub record Confines (D : Device) (ρ : List ℕ) (hidden secret : ℕ → Bool) (Locked : Volatile → Type 0) : Type 0 where
@@ -106,7 +107,9 @@ module _ (D : Device) (ρ : List ℕ) (hidden secret : ℕ → Bool) (Locked : V
   pub unwinds : (c₁ c₂ : List ℕ) (s : Volatile) (k : Command) → R c₁ c₂ s → Ok k
       → (apply D c₁ s k .report ≡ apply D c₂ s k .report) × R (apply D c₁ s k .card) (apply D c₂ s k .card) (apply D c₁ s k .report .state)
   unwinds c₁ c₂ s k r ok =
-      let u = unwind D hidden (confines .decides) c₁ c₂ s (r .agree) (λ i t. rw (r .ruled₁) (confines .unreadable s (r .locked) i t)) k (judged-alike c₁ c₂ s r k ok) in (
+      let u =
+      unwind D hidden (confines .decides) c₁ c₂ s (r .agree)
+      (λ i t. rw (r .ruled₁) (confines .unreadable s (r .locked) i t)) k (judged-alike c₁ c₂ s r k ok) in (
         u .0,
         record {
           agree = u .1;

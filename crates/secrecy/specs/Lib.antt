@@ -1,10 +1,16 @@
-pub mod TwoRuns
+-- Demand 3 over the model.
+
+-- the words of its statements
+pub mod Along
+pub mod Secret
+-- the final statements, and that they are not empty
+pub mod CardSecrecy
+pub mod Examples
+-- what proves them: two cards under one command and under a list of calls, for any device; then the AT88SC1608's two claims
 pub mod Agree
 pub mod Unwinding
+pub mod TwoRuns
 pub mod Flow
-pub mod Secret
 pub mod Rights
 pub mod ReadPassword
 pub mod Authentication
-pub mod CardSecrecy
-pub mod Examples

@@ -20,10 +20,9 @@ use Rattle.model.specs.Record.{decode}
 use Rattle.model.specs.Device.{Counter, ofPassword, ofAuthentication, counterPlace}
 use Rattle.laws.specs.Effects.{Move, stays, powers, resets, selects, opens, closes, begins, grants, denies}
 use Rattle.laws.specs.Sane.{Untouched}
-use Rattle.secrecy.specs.Agree.{AgreeOutside}
 use Rattle.secrecy.specs.Unwinding.{Open}
 use Rattle.secrecy.specs.Flow.{Confines, Allows, indistinguishable}
-use Rattle.secrecy.specs.Secret.{Sealed, register, inZone, inPassword, inZoneOrPasswords, PresentsNeither, Throughout, Indistinguishable}
+use Rattle.secrecy.specs.Secret.{Sealed, register, inZone, inPassword, inZoneOrPasswords, AgreeOutside, PresentsNeither, Throughout, Indistinguishable}
 use Rattle.secrecy.specs.Rights.{password-right, password-odd, password-set, password-counter, rule-kept, last-stage}
 
 -- ---- places
@@ -94,7 +93,8 @@ module _ (z p : ℕ) (zone : z < 8) (set : p < 8) where
     unreadable : (s : Volatile) → Locked s → (i : ℕ) → hidden i ≡ true → mayRead ρ s i ≡ false
     unreadable s l =
         hidden-place (λ i. mayRead ρ s i ≡ false)
-        (λ i q. zone-read ρ s i (omega arith) ∙ rw (q, sealed, demanded, ours, l .0, l .1) (and-false (met (ate (registerOf ρ z)) (isGranted (s .authentication)))))
+        (λ i q. zone-read ρ s i (omega arith)
+        ∙ rw (q, sealed, demanded, ours, l .0, l .1) (and-false (met (ate (registerOf ρ z)) (isGranted (s .authentication)))))
         (λ k n q. configuration-read ρ s (passwordByte k n) (omega arith) (omega arith)
         ∙ password-right 0 (fuses ρ) _ (s .active) (omega arith) sealed (omega arith) (λ e. omega (arith, password-odd k n))
         ∙ rw (password-set k n, q) (l .0))
@@ -114,7 +114,8 @@ module _ (z p : ℕ) (zone : z < 8) (set : p < 8) where
     confines =
         record {
           decides = decides;
-          password-open = λ j i t. not-hidden _ (omega arith) (λ k n q e. eqb-false (j % 8) p t (sym (password-set j i) ∙ ap (λ (a : ℕ). setOf (a - 2048)) e ∙ password-set k n ∙ q));
+          password-open = λ j i t. not-hidden _ (omega arith)
+              (λ k n q e. eqb-false (j % 8) p t (sym (password-set j i) ∙ ap (λ (a : ℕ). setOf (a - 2048)) e ∙ password-set k n ∙ q));
           unreadable = unreadable;
           password-kept = password-kept;
           password-apart = λ j i e. omega arith;

@@ -37,7 +37,8 @@ area-registers a h k = rw (le-ltb a 12 (omega arith), le-ltb a 16 h, lt-ltb a 48
 -- ---- a sealed card
 
 -- a password is read and written with the write password of its set alone
-pub password-right : (write f a : ℕ) (active : Active) → write < 2 → f ≡ 0 → 64 ≤ a → (a % 4 ≡ 0 → ⊥) → configurationAllows write f a active ≡ isActive active (setOf a)
+pub password-right : (write f a : ℕ) (active : Active) → write < 2 → f ≡ 0 → 64 ≤ a → (a % 4 ≡ 0 → ⊥)
+    → configurationAllows write f a active ≡ isActive active (setOf a)
 unfolding permission permissions stageOf permits
 password-right zero f a active w e h k = rw (e, area-passwords a h k)
 password-right (suc zero) f a active w e h k = rw (e, area-passwords a h k)

@@ -1,5 +1,5 @@
--- The words of demand 3 ("Its words"), for the AT88SC1608: sealed cards, the places that are secret, what a command presents or
--- accepts, and what it means that a list of calls does not tell two cards apart.
+-- The words of demand 3 ("Its words"), for the AT88SC1608: sealed cards, the places that are secret, cards that agree outside them,
+-- what a command presents or accepts, and what it means that a list of calls does not tell two cards apart.
 use Prim.Native.Nat.{ℕ, _+_, _/_, _%_}
 use mathlib.Core.Bool.{Bool, true, false, _||_}
 use mathlib.Core.List.{List}
@@ -16,7 +16,7 @@ use Rattle.model.specs.At88sc1608.{at88sc1608, registerAt, passwordByte}
 use Rattle.model.specs.Record.{decode}
 use Rattle.model.specs.Single.{check, apply, replies, final}
 use Rattle.model.specs.Device.{Counter, counterPlace}
-use Rattle.secrecy.specs.TwoRuns.{Along}
+use Rattle.secrecy.specs.Along.{Along}
 
 -- a card of 2,177 bytes whose PER is blown: F = 0
 pub record Sealed (b : List ℕ) : Type 0 where
@@ -41,6 +41,11 @@ inPassword k i = eqb i (passwordByte k 0) || (eqb i (passwordByte k 1) || eqb i 
 -- the places of the claim about the read password: the zone's bytes, and the write and the read password of set p
 abbrev pub inZoneOrPasswords : ℕ → ℕ → ℕ → Bool
 inZoneOrPasswords z p i = inZone z i || (inPassword p i || inPassword (8 + p) i)
+
+-- the cards are equally long and hold the same at every place that is not hidden
+pub record AgreeOutside (hidden : ℕ → Bool) (c₁ c₂ : List ℕ) : Type 0 where
+  pub long : length c₁ ≡ length c₂
+  pub same : (i : ℕ) → hidden i ≡ false → at c₁ i ≡ at c₂ i
 
 -- a command that does not present, as a password of set p, the one of that selector on either card
 abbrev pub PresentsNeither : ℕ → List ℕ → List ℕ → Command → Type 0

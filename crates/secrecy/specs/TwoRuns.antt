@@ -7,21 +7,15 @@ use mathlib.Core.Path.{_≡_, refl, ap, subst}
 use lib.Dec.{ltb}
 use lib.ListN.{length}
 use Rattle.model.specs.Refusal.{noSpace}
-use Rattle.model.specs.Call.{Acted, Powered, Decoded, refused, whole, Call, Called, checked, exact, fitting, replying, admission, admit, carried, command, step, replies, final}
+use Rattle.model.specs.Call.{Acted, Powered, Decoded, refused, whole, Call, Called}
+use Rattle.model.specs.Call.{checked, exact, fitting, replying, admission, admit, carried, command, step, replies, final}
+use Rattle.secrecy.specs.Along.{Along}
 
 -- two cards, each with its state: the states are equal and the cards related
 abbrev pub Twin : {S : Type 0} → (List ℕ → List ℕ → S → Type 0) → Powered S → Powered S → Type 0
 Twin R m n = (m .state ≡ n .state) × R (m .card) (n .card) (m .state)
 
 module _ {S K : Type 0} (check : List ℕ → S → ℕ) (decode : List ℕ → Decoded K) (act : List ℕ → S → K → Acted S) where
-  -- Along a list of calls, every command that is carried out meets a condition on it, the card and the state that it meets.
-  -- A call that is refused carries out none.
-  unfoldable pub Along : (List ℕ → S → K → Type 0) → List Call → Powered S → Type 0
-  Along Ok [] m = Unit {0}
-  Along Ok (x ∷ xs) m =
-      ((k : K) (n : ℕ) → admit check decode act (m .card) (m .state) x ≡ whole k n → Ok (m .card) (m .state) k)
-      × Along Ok xs (step check decode act m x)
-
   -- what a call whose admission is known leaves
   abbrev does : List ℕ → S → Call → Decoded K → Called S
   does c s x d = carried check decode act c s (x .space) d
@@ -73,7 +67,7 @@ module _ {S K : Type 0} (check : List ℕ → S → ℕ) (decode : List ℕ → 
         (call-same (m .card) (n .card) (m .state) x (t .1) ok)
         in (u .0, (λ i. u .0 i .state, u .1))
 
-    pub list-same : (xs : List Call) (m n : Powered S) → Twin R m n → Along Ok xs m
+    pub list-same : (xs : List Call) (m n : Powered S) → Twin R m n → Along check decode act Ok xs m
         → (replies check decode act xs m ≡ replies check decode act xs n)
         × Twin R (final check decode act xs m) (final check decode act xs n)
     unfolding Along replies final

@@ -9,11 +9,14 @@ use lib.ListN.{set}
 use Rattle.model.specs.Lists.{at, tab, sameList, stores}
 use Rattle.laws.specs.ListLaws.{tab-cong}
 use Rattle.model.specs.Volatile.{Volatile, isBegun}
-use Rattle.model.specs.Command.{Command, powerCycle, reset, select, readZone, writeZone, readConfiguration, writeConfiguration, readFuses, writeFuses, verifyPassword, beginAuthentication, verifyAuthentication}
+use Rattle.model.specs.Command.{Command, powerCycle, reset, select, readZone, writeZone, readConfiguration, writeConfiguration}
+use Rattle.model.specs.Command.{readFuses, writeFuses, verifyPassword, beginAuthentication, verifyAuthentication}
 use Rattle.model.specs.Device.{Device, Counter, ofPassword, ofAuthentication, counterPlace}
 use Rattle.model.specs.Call.{Acted, reporting, silent}
-use Rattle.model.specs.Apply.{Attempt, locked, right, wrong, attemptOf, Judgement, notBegun, accepted, denied, judgementOf, rules, shown, kept, password, presented, started, judged, apply}
-use Rattle.secrecy.specs.Agree.{AgreeOutside, set-agree, stores-agree}
+use Rattle.model.specs.Apply.{Attempt, locked, right, wrong, attemptOf, Judgement, notBegun, accepted, denied, judgementOf}
+use Rattle.model.specs.Apply.{rules, shown, kept, password, presented, started, judged, apply}
+use Rattle.secrecy.specs.Secret.{AgreeOutside}
+use Rattle.secrecy.specs.Agree.{set-agree, stores-agree}
 
 -- the places by which a card decides and answers for itself are not hidden
 pub record Open (D : Device) (hidden : ℕ → Bool) : Type 0 where
@@ -63,7 +66,8 @@ module _ (D : Device) (hidden : ℕ → Bool) (open-places : Open D hidden) wher
     written-same : (cell : ℕ → ℕ) (xs : List ℕ)
         → AgreeOutside hidden (stores (kept D (rules D c₁) s) cell xs 0 c₁) (stores (kept D (rules D c₂) s) cell xs 0 c₂)
     written-same cell xs =
-        subst (λ (ρ : List ℕ). AgreeOutside hidden (stores (kept D (rules D c₁) s) cell xs 0 c₁) (stores (kept D ρ s) cell xs 0 c₂)) (rules-same c₁ c₂ h)
+        subst (λ (ρ : List ℕ). AgreeOutside hidden (stores (kept D (rules D c₁) s) cell xs 0 c₁) (stores (kept D ρ s) cell xs 0 c₂))
+        (rules-same c₁ c₂ h)
         (stores-agree hidden (kept D (rules D c₁) s) cell xs 0 c₁ c₂ h)
 
     pub unwind : (k : Command) → ((j : ℕ) (xs : List ℕ) → k ≡ verifyPassword j xs → sameList xs (password D c₁ j) ≡ sameList xs (password D c₂ j))
@@ -79,14 +83,20 @@ module _ (D : Device) (hidden : ℕ → Bool) (open-places : Open D hidden) wher
     unwind readFuses g = (ap (λ (f : ℕ). reporting s (f ∷ [])) (h .same _ (open-places .fuse)), h)
     unwind writeFuses g = (refl, go (D .mayBlow s))
       where
-        go : (t : Bool) → AgreeOutside hidden (cond t (set c₁ (D .fuseAt) (D .blow (at c₁ (D .fuseAt)))) c₁) (cond t (set c₂ (D .fuseAt) (D .blow (at c₂ (D .fuseAt)))) c₂)
+        blown : List ℕ → List ℕ
+        blown c = set c (D .fuseAt) (D .blow (at c (D .fuseAt)))
+
+        go : (t : Bool) → AgreeOutside hidden (cond t (blown c₁) c₁) (cond t (blown c₂) c₂)
         go true = set-agree hidden c₁ c₂ _ _ _ h (λ o. ap (D .blow) (h .same _ o))
         go false = h
     unwind (verifyPassword j xs) g =
-        subst (λ (v : ℕ). Same hidden (apply D c₁ s (verifyPassword j xs)) (silent (presented D (attemptOf (eqb v 0) (sameList xs (password D c₂ j))) c₂ s j))) (h .same _ (open-places .counter (ofPassword j)))
-        (subst (λ (r : Bool). Same hidden (apply D c₁ s (verifyPassword j xs)) (silent (presented D (attemptOf (eqb (at c₁ (D .counterAt j)) 0) r) c₂ s j))) (g j xs refl)
+        subst (λ (v : ℕ). Same hidden (apply D c₁ s (verifyPassword j xs))
+        (silent (presented D (attemptOf (eqb v 0) (sameList xs (password D c₂ j))) c₂ s j))) (h .same _ (open-places .counter (ofPassword j)))
+        (subst (λ (r : Bool). Same hidden (apply D c₁ s (verifyPassword j xs))
+        (silent (presented D (attemptOf (eqb (at c₁ (D .counterAt j)) 0) r) c₂ s j))) (g j xs refl)
         (presented-same (attemptOf (eqb (at c₁ (D .counterAt j)) 0) (sameList xs (password D c₁ j))) c₁ c₂ s j h))
     unwind beginAuthentication g =
-        subst (λ (v : ℕ). Same hidden (apply D c₁ s beginAuthentication) (silent (started D (eqb v 0) c₂ s))) (h .same _ (open-places .counter ofAuthentication))
+        subst (λ (v : ℕ). Same hidden (apply D c₁ s beginAuthentication) (silent (started D (eqb v 0) c₂ s)))
+        (h .same _ (open-places .counter ofAuthentication))
         (started-same (eqb (at c₁ (D .attemptsAt)) 0) c₁ c₂ s h)
     unwind (verifyAuthentication v xs) g = judged-same (judgementOf (isBegun (s .authentication)) v) c₁ c₂ s xs h

@@ -15,7 +15,8 @@ use Rattle.model.specs.Reader.{recordsEnd}
 use Rattle.model.specs.Refusal.{bytesLeft, noSpace}
 use Rattle.model.specs.Session.{startOf, countOf, frame, Read, stopped, all, readFrom, initial, logOf, rejected, ended, framed, run}
 use Rattle.properties.specs.SessionLaws.{end-length}
-use Rattle.properties.specs.Accepted.{framed-well, run-accepted}
+use Rattle.properties.specs.SessionAcceptance.{run-accepted}
+use Rattle.properties.specs.AcceptedSessionLaws.{framed-well}
 use Rattle.validate.specs.Check.{entriesTotal, unfit, sized, sizedOf, onFrame, checkOf}
 use Rattle.session.specs.Run.{LogReady, LogWritten}
 use Rattle.session.proofs.SessionWriteLaws.{entries-total}

@@ -26,7 +26,7 @@ use Rattle.model.specs.Single.{apply}
 use Rattle.model.specs.Volatile.{Volatile, powerUp}
 use Rattle.carry.specs.Carried.{Ready, Carried}
 use Rattle.validate.specs.Check.{entriesTotal}
-use Rattle.properties.specs.Accepted.{framed-well, card-good}
+use Rattle.properties.specs.AcceptedSessionLaws.{framed-well, card-good}
 use Rattle.session.specs.Run.{EntryReady, EntryWritten, RecordsReady, RecordsRun, LogReady, LogWritten}
 use Rattle.properties.specs.SessionLaws.{First, read-first, read-none, read-count, entries-length, entry-length, end-length}
 

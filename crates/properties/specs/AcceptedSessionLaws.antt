@@ -1,12 +1,12 @@
--- When a session is accepted, and what it then gives back and leaves.
+-- Of accepted sessions: what a well frame says of the bytes, that an accepted session has commands, and what it leaves.
 use Prim.Native.Nat.{ℕ, zero, suc, _+_, _-_, _≤_}
 use mathlib.Core.Bool.{Bool, true, false, cond, not}
-use mathlib.Core.List.{List, _++_}
+use mathlib.Core.List.{List}
 use mathlib.Core.Path.{_≡_, refl, ap, _∙_}
 use native.Mathlib.Omega.{arith}
 use borrow.Author.Tests.{eqb-true, leb-true, ltb-false, not-false, eq-eqb, le-ltb, le-leb}
 use lib.Dec.{ltb, leb, eqb}
-use lib.ListN.{length, drop}
+use lib.ListN.{length}
 use lib.Seq.{length-take-le, getD-take}
 use Rattle.model.specs.Sizes.{cardSize, fuseAt, trailerSize, leastSession, greatestSession, mostRecords}
 use Rattle.model.specs.Lists.{at}
@@ -18,9 +18,11 @@ use Rattle.laws.specs.CallLaws.{clear}
 use Rattle.model.specs.Reader.{recordsEnd, partAt, nextOf}
 use Rattle.model.specs.Refusal.{bytesLeft, noSpace}
 use Rattle.laws.specs.Sane.{Good}
-use Rattle.model.specs.Session.{cardOf, startOf, countOf, wrongLength, wrongTrailer, wrongStart, wrongCount, wrongFuses, frame, Read, stopped, all, onDecoded, more, readFrom, logOf, Ran, rejected, written, ended, framed, run}
+use Rattle.model.specs.Session.{cardOf, startOf, countOf, wrongLength, wrongTrailer, wrongStart, wrongCount, wrongFuses, frame, framed, run}
+use Rattle.model.specs.Session.{Read, stopped, all, onDecoded, more, readFrom, logOf, rejected, written, ended}
 use Rattle.model.specs.Single.{isFuseByte}
 use Rattle.properties.specs.SessionLaws.{refusal-nonzero}
+use Rattle.properties.specs.AcceptedSession.{Accepts, accepting}
 
 -- ---- the frame
 
@@ -96,23 +98,13 @@ read-nonzero (suc n) s i r e z = go (λ j q. read-nonzero n s j r q z) (nextOf s
 
 -- ---- the session
 
--- no refusal applies: the commands, and room for their log
-pub record Accepts (s space : List ℕ) (ks : List Command) : Type 0 where
-  pub frames : frame s ≡ 0
-  pub reads : readFrom (countOf s) s (startOf s) ≡ all ks (recordsEnd (length s))
-  pub room : length (logOf s ks) ≤ length space
-
--- what is then given back and left
-abbrev pub accepting : List ℕ → List ℕ → Ran
-accepting log space = record { refusal = 0; size = length log; space = log ++ drop (length log) space }
-
-pub run-accepted : (s space : List ℕ) (ks : List Command) → Accepts s space ks → run s space ≡ accepting (logOf s ks) space
+pub accepted-log : (s space : List ℕ) (ks : List Command) → Accepts s space ks → run s space ≡ accepting (logOf s ks) space
 unfolding run
-run-accepted s space ks a = rw (a .frames, a .reads, eq-eqb (recordsEnd (length s)) _ refl, le-ltb _ _ (a .room))
+accepted-log s space ks a = rw (a .frames, a .reads, eq-eqb (recordsEnd (length s)) _ refl, le-ltb _ _ (a .room))
 
-pub accepted-run : (s space : List ℕ) → run s space .refusal ≡ 0 → (ks : List Command) × Accepts s space ks
+pub accepted-commands : (s space : List ℕ) → run s space .refusal ≡ 0 → (ks : List Command) × Accepts s space ks
 unfolding run
-accepted-run s space e = on-frame (frame s) refl e
+accepted-commands s space e = on-frame (frame s) refl e
   where
     on-room : (ks : List Command) (t : Bool) → frame s ≡ 0 → readFrom (countOf s) s (startOf s) ≡ all ks (recordsEnd (length s))
         → ltb (length space) (length (logOf s ks)) ≡ t → cond t (rejected noSpace space) (accepting (logOf s ks) space) .refusal ≡ 0

@@ -1,0 +1,23 @@
+-- One command does what a session does at that record ("A single command is also public").
+use Prim.Native.Nat.{ℕ, suc, _≤_, _<_}
+use mathlib.Core.List.{List}
+use mathlib.Core.Path.{_≡_}
+use lib.ListN.{length}
+use Rattle.model.specs.Lists.{Bytes}
+use Rattle.model.specs.Command.{Command}
+use Rattle.model.specs.Call.{calling}
+use Rattle.model.specs.Log.{find, answerIn}
+use Rattle.model.specs.Session.{startOf, countOf, initial, logOf}
+use Rattle.model.specs.Single.{command}
+use Rattle.properties.specs.SessionConditions.{placePast}
+use Rattle.properties.specs.AcceptedSession.{Accepts, reached, recordAt, leaving}
+use Rattle.properties.specs.EachRecord.{one-record}
+
+-- a session of bytes that is accepted with the commands ks
+module _ (s log : List ℕ) (ks : List Command) (bytes : Bytes s) (a : Accepts s log ks) where
+  -- With the card and the state that the session has reached before record k, the bytes of record k and enough space, a single
+  -- command gives the response that the log holds for k, and leaves the card and the state before record k + 1.
+  pub single : (k : ℕ) → k < countOf s → (space : List ℕ) → length (answerIn (logOf s ks) (find (logOf s ks) k)) ≤ length space
+      → command (reached ks (initial s) k .card) (reached ks (initial s) k .state) (calling (recordAt s (placePast k s (startOf s))) space)
+      ≡ leaving (reached ks (initial s) (suc k)) (answerIn (logOf s ks) (find (logOf s ks) k)) space
+  single = one-record s log ks bytes a

@@ -1,0 +1,136 @@
+-- Of the conditions of a session: the first that applies is its refusal.
+use Prim.Native.Nat.{ℕ, zero, suc, _+_, _≤_}
+use mathlib.Core.Bool.{Bool, true, false, cond, not}
+use mathlib.Core.List.{List, _++_}
+use mathlib.Core.Path.{_≡_, refl, sym, ap, _∙_}
+use native.Mathlib.Omega.{arith}
+use borrow.Author.Tests.{leb-true, not-false}
+use lib.Dec.{ltb, leb, eqb}
+use lib.ListN.{length, length-append}
+use lib.Seq.{length-take-le}
+use Rattle.model.specs.Sizes.{cardSize, leastSession}
+use Rattle.laws.specs.BoolLaws.{and-left}
+use Rattle.model.specs.Volatile.{Volatile}
+use Rattle.model.specs.Command.{Command}
+use Rattle.model.specs.Call.{Powered, Decoded, refused, whole}
+use Rattle.model.specs.Log.{entriesBytes}
+use Rattle.model.specs.Reader.{recordsEnd, partAt, nextOf}
+use Rattle.model.specs.Record.{recordLength}
+use Rattle.laws.specs.RecordLaws.{accepted}
+use Rattle.model.specs.Refusal.{bytesLeft, noSpace}
+use Rattle.model.specs.Session.{startOf, countOf, wrongLength, wrongTrailer, wrongStart, wrongCount, wrongFuses, frame, framed, run}
+use Rattle.model.specs.Session.{Read, stopped, all, onDecoded, more, readFrom, after, entriesOf, logOf, rejected, ended, initial}
+use Rattle.properties.specs.SessionLaws.{read-first, read-none, entry-length, end-length}
+use Rattle.properties.specs.Conditions.{recordConditions, first}
+use Rattle.properties.specs.ConditionsLaws.{first-append, Numbered, numbered-append, some, record-numbered, first-record, decode-answer}
+use Rattle.properties.specs.SessionConditions.{placePast, recordsConditions, entriesLength, logLength, lastConditions, sessionConditions}
+use Rattle.properties.specs.AcceptedSession.{accepting}
+
+-- ---- the records in turn
+
+-- records that are all accepted: none of their conditions applies, where they end, and how long their entries are
+record Clean (n : ℕ) (s : List ℕ) (i : ℕ) (ks : List Command) (j : ℕ) : Type 0 where
+  none : (d : ℕ) → first (recordsConditions n s i) d ≡ d
+  place : j ≡ placePast n s i
+  entries : (m : Powered Volatile) → length (entriesBytes (entriesOf ks m)) ≡ entriesLength n s i
+
+records-clean : (n : ℕ) (s : List ℕ) (i : ℕ) (ks : List Command) (j : ℕ) → readFrom n s i ≡ all ks j → Clean n s i ks j
+records-clean zero s i ks j e =
+    let q = read-none s i ks j e in
+    rw (q .0) (record { none = λ d. refl; place = sym (q .1); entries = λ m. refl })
+records-clean (suc n) s i ks j e =
+    let f = read-first n s i ks j e in
+    let r = records-clean n s (i + f .size) (f .others) j (f .rest) in
+    let l : recordLength (partAt s i) ≡ f .size = accepted (partAt s i) (f .command) (f .size) (f .next) .size in
+    rw (f .list) (record {
+      none = λ d. first-append (recordConditions (partAt s i)) (recordsConditions n s (i + recordLength (partAt s i))) d
+          ∙ first-record (partAt s i) _ _ (f .next) ∙ ap (λ (m : ℕ). first (recordsConditions n s (i + m)) d) l ∙ r .none d;
+      place = rw l (r .place);
+      entries = λ m. entry-length (f .command) (f .others) m
+          ∙ rw (l, decode-answer (partAt s i) (f .command) (f .size) (f .next), r .entries (after m (f .command)));
+    })
+
+-- records of which one is refused
+first-stopped : (n : ℕ) (s : List ℕ) (i r : ℕ) → readFrom n s i ≡ stopped r → (d : ℕ) → first (recordsConditions n s i) d ≡ r
+first-stopped zero s i r e d = absurd (let z : _≡_ {A = ℕ} 0 1 = cc in let w : ⊥ = omega arith in w)
+first-stopped (suc n) s i r e d =
+    first-append (recordConditions (partAt s i)) (recordsConditions n s (i + recordLength (partAt s i))) d
+    ∙ go (λ m q. first-stopped n s (i + m) r q d) (nextOf s i) refl e
+  where
+    later : (k : Command) (x : Read) → more k x ≡ stopped r → x ≡ stopped r
+    later k (stopped y) e = e
+    later k (all ks j) e = absurd (let z : _≡_ {A = ℕ} 0 1 = cc in let w : ⊥ = omega arith in w)
+
+    go : ((m : ℕ) → readFrom n s (i + m) ≡ stopped r → first (recordsConditions n s (i + m)) d ≡ r) → (x : Decoded Command) → nextOf s i ≡ x
+        → onDecoded x stopped (λ k m. more k (readFrom n s (i + m))) ≡ stopped r
+        → first (recordConditions (partAt s i)) (first (recordsConditions n s (i + recordLength (partAt s i))) d) ≡ r
+    go ih (refused x) q e = first-record (partAt s i) _ _ q ∙ (let w : x ≡ r = cc in w)
+    go ih (whole k m) q e =
+        first-record (partAt s i) _ _ q
+        ∙ ap (λ (m : ℕ). first (recordsConditions n s (i + m)) d) (accepted (partAt s i) k m q .size)
+        ∙ ih m (later k (readFrom n s (i + m)) e)
+
+-- ---- the session
+
+past-frame : (s space : List ℕ) (a b c d e : Bool) → framed s space (cond a 1 (cond b 2 (cond c 3 (cond d 4 (cond e 5 0))))) .refusal
+    ≡ cond a 1 (cond b 2 (cond c 3 (cond d 4 (cond e 5 (framed s space 0 .refusal)))))
+past-frame s space true b c d e = refl
+past-frame s space false true c d e = refl
+past-frame s space false false true d e = refl
+past-frame s space false false false true e = refl
+past-frame s space false false false false true = refl
+past-frame s space false false false false false = refl
+
+log-length : (s : List ℕ) (ks : List Command) (j : ℕ) → cardSize ≤ length s → readFrom (countOf s) s (startOf s) ≡ all ks j
+    → length (logOf s ks) ≡ logLength s
+log-length s ks j l e =
+    let c = end-length ks (initial s) ∙ length-take-le cardSize s l in
+    simp (length-append, records-clean (countOf s) s (startOf s) ks j e .entries (initial s), c)
+
+past-records : (s space : List ℕ) → cardSize ≤ length s → (x : Read) → readFrom (countOf s) s (startOf s) ≡ x
+    → ended s space x .refusal ≡ first (recordsConditions (countOf s) s (startOf s)) (first (lastConditions s space) 0)
+past-records s space l (stopped r) e = sym (first-stopped (countOf s) s (startOf s) r e _)
+past-records s space l (all ks j) e =
+    let c = records-clean (countOf s) s (startOf s) ks j e in
+    rw (c .none (first (lastConditions s space) 0), c .place)
+    (go (eqb (placePast (countOf s) s (startOf s)) (recordsEnd (length s))) (ltb (length space) (length (logOf s ks))) _
+    (λ i. ltb (length space) (log-length s ks j l e i)))
+  where
+    go : (a b c : Bool) → b ≡ c
+        → cond (not a) (rejected bytesLeft space) (cond b (rejected noSpace space) (accepting (logOf s ks) space)) .refusal
+        ≡ cond (not a) bytesLeft (cond c noSpace 0)
+    go true true c e = rw (sym e)
+    go true false c e = rw (sym e)
+    go false b c e = refl
+
+pub refusal-first : (s space : List ℕ) → run s space .refusal ≡ first (sessionConditions s space) 0
+unfolding run frame
+refusal-first s space =
+    past-frame s space (wrongLength s) (wrongTrailer s) (wrongStart s) (wrongCount s) (wrongFuses s)
+    ∙ under (wrongLength s) refl
+  where
+    rest : ℕ → ℕ
+    rest n = cond (wrongTrailer s) 2 (cond (wrongStart s) 3 (cond (wrongCount s) 4 (cond (wrongFuses s) 5 n)))
+
+    under : (t : Bool) → wrongLength s ≡ t → cond t 1 (rest (framed s space 0 .refusal))
+        ≡ cond t 1 (rest (first (recordsConditions (countOf s) s (startOf s) ++ lastConditions s space) 0))
+    under true e = refl
+    under false e =
+        let l : leastSession ≤ length s = leb-true _ _ (and-left (leb leastSession (length s)) _ (not-false _ e)) in
+        ap rest
+        (past-records s space (omega arith) (readFrom (countOf s) s (startOf s)) refl
+        ∙ sym (first-append (recordsConditions (countOf s) s (startOf s)) (lastConditions s space) 0))
+
+records-numbered : (n : ℕ) (s : List ℕ) (i : ℕ) → Numbered (recordsConditions n s i)
+records-numbered zero s i = tt
+records-numbered (suc n) s i =
+    numbered-append (recordConditions (partAt s i)) (recordsConditions n s (i + recordLength (partAt s i)))
+    (record-numbered (partAt s i)) (records-numbered n s (i + recordLength (partAt s i)))
+
+pub session-numbered : (s space : List ℕ) → Numbered (sessionConditions s space)
+session-numbered s space = (some _, (some _, (some _, (some _, (some _, others)))))
+  where
+    others : Numbered (recordsConditions (countOf s) s (startOf s) ++ lastConditions s space)
+    others =
+        numbered-append (recordsConditions (countOf s) s (startOf s)) (lastConditions s space)
+        (records-numbered (countOf s) s (startOf s)) (some _, (some _, tt))

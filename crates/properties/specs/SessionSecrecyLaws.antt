@@ -1,0 +1,262 @@
+-- Of two sessions that agree outside secret places of their cards: from demand 3 of lists of calls, their runs are alike.
+use Prim.Native.Nat.{ℕ, zero, suc, _+_, _-_, _≤_, _<_, min}
+use mathlib.Core.Bool.{Bool, true, false, cond, not, _&&_}
+use mathlib.Core.List.{List, _++_, append-assoc}
+use mathlib.Core.Path.{_≡_, refl, sym, ap, subst, _∙_}
+use native.Mathlib.Omega.{arith}
+use borrow.Author.Tests.{ltb-true, ltb-false, leb-true, leb-false, le-leb, eqb-true}
+use lib.Dec.{ltb, leb, eqb}
+use lib.ListN.{length, drop, length-append, length-take, List·getD-append, List·getD-eq-default}
+use lib.Seq.{getD-append-add, length-take-le, getD-take}
+use Rattle.model.specs.Sizes.{cardSize, fuseAt, leastLog}
+use Rattle.model.specs.Lists.{at}
+use Rattle.model.specs.Command.{Command}
+use Rattle.model.specs.Access.{rpe, ate, passwordSet}
+use Rattle.model.specs.Call.{Call}
+use Rattle.model.specs.Log.{Entry, entriesBytes, logTrailer, logBytes}
+use Rattle.model.specs.Reader.{recordsEnd}
+use Rattle.model.specs.Refusal.{bytesLeft, noSpace}
+use Rattle.model.specs.Session.{cardOf, startOf, countOf, frame, Read, stopped, all, readFrom, entriesOf, endOf, logOf, initial}
+use Rattle.model.specs.Session.{rejected, written, ended, framed, run}
+use Rattle.model.specs.Single.{replies, final}
+use Rattle.secrecy.specs.Secret.{Sealed, register, inZone, inZoneOrPasswords, AgreeOutside}
+use Rattle.secrecy.specs.Secret.{PresentsNeither, AcceptsNot, Throughout, Indistinguishable}
+use Rattle.secrecy.specs.ReadPassword as read
+use Rattle.secrecy.specs.Authentication as authentication
+use Rattle.secrecy.specs.CardSecrecy as calls
+use Rattle.properties.specs.AcceptedSession.{Accepts, accepting}
+use Rattle.properties.specs.SessionSecret.{inFinalCard, RunAlike, EveryRecord}
+use Rattle.properties.specs.SessionLaws.{end-length, entries-long}
+use Rattle.properties.specs.AcceptedSessionLaws.{framed-well, card-good}
+use Rattle.properties.specs.AsCalls.{callsFrom, entriesFrom, Same, as-calls}
+use Rattle.properties.specs.Alike.{frame-same, read-same, calls-same, start-same, count-same}
+
+-- ---- lists that agree outside a part in their midst
+
+module _ (hidden : ℕ → Bool) where
+  at-front : (c₁ c₂ x : List ℕ) → AgreeOutside hidden c₁ c₂ → (i : ℕ) → hidden i ≡ false → at (c₁ ++ x) i ≡ at (c₂ ++ x) i
+  at-front c₁ c₂ x a i h = go (ltb i (length c₁)) refl
+    where
+      go : (t : Bool) → ltb i (length c₁) ≡ t → at (c₁ ++ x) i ≡ at (c₂ ++ x) i
+      go true e =
+          let l : i < length c₁ = ltb-true _ _ e in
+          let w = a .long in
+          List·getD-append c₁ x 0 i l ∙ a .same i h ∙ sym (List·getD-append c₂ x 0 i (omega arith))
+      go false e =
+          let l : length c₁ ≤ i = ltb-false _ _ e in
+          let w = a .long in
+          let k : ℕ = i - length c₁ in
+          ap (at (c₁ ++ x)) (let q : i ≡ length c₁ + k = omega arith in q) ∙ getD-append-add c₁ x k 0
+          ∙ sym (ap (at (c₂ ++ x)) (let q : i ≡ length c₂ + k = omega arith in q) ∙ getD-append-add c₂ x k 0)
+
+  pub agree-within : (e c₁ c₂ x : List ℕ) → AgreeOutside hidden c₁ c₂
+      → AgreeOutside (λ i. leb (length e) i && hidden (i - length e)) (e ++ (c₁ ++ x)) (e ++ (c₂ ++ x))
+  agree-within e c₁ c₂ x a =
+      record {
+        long = simp (length-append, a .long);
+        same = λ i h. go i (leb (length e) i) refl h;
+      }
+    where
+      go : (i : ℕ) (t : Bool) → leb (length e) i ≡ t → (t && hidden (i - length e)) ≡ false → at (e ++ (c₁ ++ x)) i ≡ at (e ++ (c₂ ++ x)) i
+      go i true q h =
+          let l : length e ≤ i = leb-true _ _ q in
+          let k : ℕ = i - length e in
+          let w : i ≡ length e + k = omega arith in
+          ap (at (e ++ (c₁ ++ x))) w ∙ getD-append-add e (c₁ ++ x) k 0 ∙ at-front c₁ c₂ x a k h
+          ∙ sym (ap (at (e ++ (c₂ ++ x))) w ∙ getD-append-add e (c₂ ++ x) k 0)
+      go i false q h =
+          let l : i < length e = leb-false _ _ q in
+          List·getD-append e (c₁ ++ x) 0 i l ∙ sym (List·getD-append e (c₂ ++ x) 0 i l)
+
+-- ---- from lists of calls to sessions
+
+agree-self : (hidden : ℕ → Bool) (l : List ℕ) → AgreeOutside hidden l l
+agree-self hidden l = record { long = refl; same = λ i h. refl }
+
+rejected-alike : (hidden : ℕ → Bool) (n : ℕ) (space : List ℕ) → RunAlike hidden (rejected n space) (rejected n space)
+rejected-alike hidden n space = record { refusal = refl; size = refl; outside = agree-self _ space }
+
+places : (hidden : ℕ → Bool) (f n i : ℕ) → n ≡ f + leastLog → inFinalCard hidden n i ≡ (leb f i && hidden (i - f))
+places hidden f n i e = let q : n - leastLog ≡ f = omega arith in rw (q, le-leb leastLog n (omega arith))
+
+-- equal entries around cards that agree
+accepted-alike : (hidden : ℕ → Bool) (es₁ es₂ : List Entry) (c₁ c₂ space : List ℕ) → es₁ ≡ es₂ → length c₁ ≡ cardSize → AgreeOutside hidden c₁ c₂
+    → RunAlike hidden (accepting (logBytes es₁ c₁) space) (accepting (logBytes es₂ c₂) space)
+accepted-alike hidden es₁ es₂ c₁ c₂ space e l a =
+    subst (λ (es : List Entry). RunAlike hidden (accepting (logBytes es₁ c₁) space) (accepting (logBytes es c₂) space)) e same
+  where
+    front : List ℕ
+    front = entriesBytes es₁
+
+    back : List ℕ
+    back = logTrailer (length front) (length es₁)
+
+    log-length : (c : List ℕ) → length (logBytes es₁ c) ≡ length front + (length c + 8)
+    log-length c = simp length-append
+
+    lengths : length (logBytes es₁ c₁) ≡ length (logBytes es₁ c₂)
+    lengths = log-length c₁ ∙ ap (λ (n : ℕ). length front + (n + 8)) (a .long) ∙ sym (log-length c₂)
+
+    behind : List ℕ
+    behind = back ++ drop (length (logBytes es₁ c₁)) space
+
+    joined : (c : List ℕ) → length (logBytes es₁ c₁) ≡ length (logBytes es₁ c) → accepting (logBytes es₁ c) space .space ≡ front ++ (c ++ behind)
+    joined c q =
+        ap (λ (n : ℕ). logBytes es₁ c ++ drop n space) (sym q) ∙ append-assoc front (c ++ back) _ ∙ ap (λ (x : List ℕ). front ++ x) (append-assoc c back _)
+
+    within : AgreeOutside (λ i. leb (length front) i && hidden (i - length front)) (front ++ (c₁ ++ behind)) (front ++ (c₂ ++ behind))
+    within = agree-within hidden front c₁ c₂ behind a
+
+    same : RunAlike hidden (accepting (logBytes es₁ c₁) space) (accepting (logBytes es₁ c₂) space)
+    same =
+        let p₁ = joined c₁ refl in
+        let p₂ = joined c₂ lengths in
+        record {
+          refusal = refl;
+          size = lengths;
+          outside = record {
+            long = ap length p₁ ∙ within .long ∙ sym (ap length p₂);
+            same = λ i h. ap (λ (x : List ℕ). at x i) p₁
+                ∙ within .same i (sym (places hidden (length front) (length (logBytes es₁ c₁)) i (log-length c₁ ∙ (omega arith))) ∙ h)
+                ∙ sym (ap (λ (x : List ℕ). at x i) p₂);
+          };
+        }
+
+module _ (hidden : ℕ → Bool) (in-card : (i : ℕ) → fuseAt ≤ i → hidden i ≡ false) (s₁ s₂ : List ℕ) (agree : AgreeOutside hidden s₁ s₂)
+    (Ok : Command → Type 0) (claim : (xs : List Call) → Throughout Ok xs (cardOf s₁) → Indistinguishable hidden xs (cardOf s₁) (cardOf s₂))
+    (space : List ℕ) (every : EveryRecord Ok s₁ space) where
+  -- both sessions run the same commands
+  module _ (ks : List Command) (accepts : Accepts s₁ space ks) (reads₂ : readFrom (countOf s₂) s₂ (startOf s₂) ≡ all ks (recordsEnd (length s₁))) where
+    long : leastLog ≤ length s₁
+    long = framed-well s₁ (accepts .frames) .long
+
+    abbrev xs₁ : List Call
+    xs₁ = callsFrom (countOf s₁) s₁ (startOf s₁)
+
+    abbrev xs₂ : List Call
+    xs₂ = callsFrom (countOf s₂) s₂ (startOf s₂)
+
+    xs-same : xs₁ ≡ xs₂
+    xs-same =
+        calls-same hidden in-card s₁ s₂ agree (countOf s₁) (startOf s₁) (let l = framed-well s₁ (accepts .frames) .low in omega arith)
+        ∙ (λ t. callsFrom (count-same hidden in-card s₁ s₂ agree long t) s₂ (start-same hidden in-card s₁ s₂ agree long t))
+
+    same₁ : Same xs₁ ks (initial s₁)
+    same₁ = as-calls (countOf s₁) s₁ (startOf s₁) ks (recordsEnd (length s₁)) (accepts .reads) (initial s₁) (card-good s₁ (framed-well s₁ (accepts .frames)))
+
+    same₂ : Same xs₂ ks (initial s₂)
+    same₂ =
+        as-calls (countOf s₂) s₂ (startOf s₂) ks (recordsEnd (length s₁)) reads₂ (initial s₂)
+        (card-good s₂ (framed-well s₂ (sym (frame-same hidden in-card s₁ s₂ agree) ∙ accepts .frames)))
+
+    indistinguishable : Indistinguishable hidden xs₁ (cardOf s₁) (cardOf s₂)
+    indistinguishable = claim xs₁ (same₁ .along Ok (every ks accepts))
+
+    entries-same : entriesOf ks (initial s₁) ≡ entriesOf ks (initial s₂)
+    entries-same =
+        sym (same₁ .entries) ∙ ap (entriesFrom ks) (indistinguishable .observed)
+        ∙ ap (λ (xs : List Call). entriesFrom ks (replies xs (initial s₂))) xs-same ∙ same₂ .entries
+
+    card-long : length (endOf ks (initial s₁) .card) ≡ cardSize
+    card-long = end-length ks (initial s₁) ∙ length-take-le cardSize s₁ (let l = long in omega arith)
+
+    cards-agree : AgreeOutside hidden (endOf ks (initial s₁) .card) (endOf ks (initial s₂) .card)
+    cards-agree =
+        record {
+          long = card-long ∙ sym (end-length ks (initial s₂) ∙ length-take-le cardSize s₂ (let l = long in let w = agree .long in omega arith));
+          same = λ i h. (λ t. at (sym (same₁ .ends) t .card) i) ∙ indistinguishable .outside i h
+              ∙ (λ t. at (final (xs-same t) (initial s₂) .card) i) ∙ (λ t. at (same₂ .ends t .card) i);
+        }
+
+    logs-alike : RunAlike hidden (accepting (logOf s₁ ks) space) (accepting (logOf s₂ ks) space)
+    logs-alike =
+        accepted-alike hidden (entriesOf ks (initial s₁)) (entriesOf ks (initial s₂)) (endOf ks (initial s₁) .card) (endOf ks (initial s₂) .card) space
+        entries-same card-long cards-agree
+
+  -- ---- the runs
+
+  logs-long : (ks : List Command) → length (logOf s₁ ks) ≡ length (logOf s₂ ks)
+  logs-long ks =
+      let c = end-length ks (initial s₁) ∙ cards-long ∙ sym (end-length ks (initial s₂)) in
+      simp (length-append, entries-long ks (initial s₁) (initial s₂), c)
+    where
+      cards-long : length (cardOf s₁) ≡ length (cardOf s₂)
+      cards-long = length-take cardSize s₁ ∙ ap (min cardSize) (agree .long) ∙ sym (length-take cardSize s₂)
+
+  on-room : (ks : List Command) (t : Bool) → frame s₁ ≡ 0 → readFrom (countOf s₁) s₁ (startOf s₁) ≡ all ks (recordsEnd (length s₁))
+      → readFrom (countOf s₂) s₂ (startOf s₂) ≡ all ks (recordsEnd (length s₁)) → ltb (length space) (length (logOf s₁ ks)) ≡ t
+      → RunAlike hidden (cond t (rejected noSpace space) (accepting (logOf s₁ ks) space)) (cond t (rejected noSpace space) (accepting (logOf s₂ ks) space))
+  on-room ks true f r₁ r₂ q = rejected-alike hidden noSpace space
+  on-room ks false f r₁ r₂ q = logs-alike ks (record { frames = f; reads = r₁; room = ltb-false _ _ q }) r₂
+
+  on-end : (ks : List Command) (j : ℕ) (t : Bool) → frame s₁ ≡ 0 → readFrom (countOf s₁) s₁ (startOf s₁) ≡ all ks j
+      → readFrom (countOf s₂) s₂ (startOf s₂) ≡ all ks j → eqb j (recordsEnd (length s₁)) ≡ t
+      → RunAlike hidden (cond (not t) (rejected bytesLeft space) (written (logOf s₁ ks) space))
+      (cond (not t) (rejected bytesLeft space) (written (logOf s₂ ks) space))
+  on-end ks j true f r₁ r₂ q =
+      let w : j ≡ recordsEnd (length s₁) = eqb-true _ _ q in
+      subst (λ (n : ℕ). RunAlike hidden (written (logOf s₁ ks) space)
+      (cond (ltb (length space) n) (rejected noSpace space) (accepting (logOf s₂ ks) space))) (logs-long ks)
+      (on-room ks (ltb (length space) (length (logOf s₁ ks))) f (r₁ ∙ ap (all ks) w) (r₂ ∙ ap (all ks) w) refl)
+  on-end ks j false f r₁ r₂ q = rejected-alike hidden bytesLeft space
+
+  on-read : (r : Read) → frame s₁ ≡ 0 → readFrom (countOf s₁) s₁ (startOf s₁) ≡ r → readFrom (countOf s₂) s₂ (startOf s₂) ≡ r
+      → RunAlike hidden (ended s₁ space r) (ended s₂ space r)
+  on-read (stopped n) f r₁ r₂ = rejected-alike hidden n space
+  on-read (all ks j) f r₁ r₂ =
+      subst (λ (n : ℕ). RunAlike hidden (ended s₁ space (all ks j))
+      (cond (not (eqb j (recordsEnd n))) (rejected bytesLeft space) (written (logOf s₂ ks) space))) (agree .long)
+      (on-end ks j (eqb j (recordsEnd (length s₁))) f r₁ r₂ refl)
+
+  on-frame : (n : ℕ) → frame s₁ ≡ n → RunAlike hidden (framed s₁ space n) (framed s₂ space n)
+  on-frame zero f =
+      let w = framed-well s₁ f in
+      let l : leastLog ≤ length s₁ = w .long in
+      let low = w .low in
+      let q : readFrom (countOf s₁) s₁ (startOf s₁) ≡ readFrom (countOf s₂) s₂ (startOf s₂) =
+      read-same hidden in-card s₁ s₂ agree (countOf s₁) (startOf s₁) (omega arith)
+      ∙ (λ t. readFrom (count-same hidden in-card s₁ s₂ agree l t) s₂ (start-same hidden in-card s₁ s₂ agree l t)) in
+      subst (λ (r : Read). RunAlike hidden (framed s₁ space 0) (ended s₂ space r)) q (on-read (readFrom (countOf s₁) s₁ (startOf s₁)) f refl (sym q))
+  on-frame (suc n) f = rejected-alike hidden (suc n) space
+
+  pub alike : RunAlike hidden (run s₁ space) (run s₂ space)
+  unfolding run
+  alike =
+      subst (λ (n : ℕ). RunAlike hidden (framed s₁ space (frame s₁)) (framed s₂ space n)) (frame-same hidden in-card s₁ s₂ agree)
+      (on-frame (frame s₁) refl)
+
+-- ---- the AT88SC1608
+
+start-agree : (hidden : ℕ → Bool) (s₁ s₂ : List ℕ) → AgreeOutside hidden s₁ s₂ → AgreeOutside hidden (cardOf s₁) (cardOf s₂)
+start-agree hidden s₁ s₂ a =
+    record {
+      long = length-take cardSize s₁ ∙ ap (min cardSize) (a .long) ∙ sym (length-take cardSize s₂);
+      same = λ i h. at-card s₁ i ∙ ap (λ (n : ℕ). cond (ltb i cardSize) n 0) (a .same i h) ∙ sym (at-card s₂ i);
+    }
+  where
+    at-card : (s : List ℕ) (i : ℕ) → at (cardOf s) i ≡ cond (ltb i cardSize) (at s i) 0
+    at-card s i = go (ltb i cardSize) refl
+      where
+        go : (t : Bool) → ltb i cardSize ≡ t → at (cardOf s) i ≡ cond t (at s i) 0
+        go true e = getD-take cardSize s i 0 (ltb-true _ _ e)
+        go false e =
+            let l : cardSize ≤ i = ltb-false _ _ e in
+            let w = length-take cardSize s in
+            List·getD-eq-default (cardOf s) 0 (omega arith)
+
+pub read-claim : (z : ℕ) → z < 8 → (s₁ s₂ : List ℕ) → Sealed (cardOf s₁) → Sealed (cardOf s₂) → rpe (register (cardOf s₁) z) ≡ true
+    → AgreeOutside (inZoneOrPasswords z (passwordSet (register (cardOf s₁) z))) s₁ s₂
+    → (space : List ℕ) → EveryRecord (PresentsNeither (passwordSet (register (cardOf s₁) z)) (cardOf s₁) (cardOf s₂)) s₁ space
+    → RunAlike (inZoneOrPasswords z (passwordSet (register (cardOf s₁) z))) (run s₁ space) (run s₂ space)
+read-claim z zl s₁ s₂ sealed₁ sealed₂ demanded agree space every =
+    let p : ℕ = passwordSet (register (cardOf s₁) z) in
+    let hidden : ℕ → Bool = inZoneOrPasswords z p in
+    alike hidden (λ i h. read.not-hidden z p zl (omega arith) i (omega arith) (λ k n q e. omega arith)) s₁ s₂ agree
+    (PresentsNeither p (cardOf s₁) (cardOf s₂))
+    (calls.read-password z zl (cardOf s₁) (cardOf s₂) sealed₁ sealed₂ demanded (start-agree hidden s₁ s₂ agree)) space every
+
+pub authentication-claim : (z : ℕ) → z < 8 → (s₁ s₂ : List ℕ) → Sealed (cardOf s₁) → Sealed (cardOf s₂) → ate (register (cardOf s₁) z) ≡ true
+    → AgreeOutside (inZone z) s₁ s₂ → (space : List ℕ) → EveryRecord AcceptsNot s₁ space → RunAlike (inZone z) (run s₁ space) (run s₂ space)
+authentication-claim z zl s₁ s₂ sealed₁ sealed₂ demanded agree space every =
+    alike (inZone z) (λ i h. authentication.not-hidden z i zl (omega arith)) s₁ s₂ agree
+    AcceptsNot (calls.authentication-demanded z zl (cardOf s₁) (cardOf s₂) sealed₁ sealed₂ demanded (start-agree (inZone z) s₁ s₂ agree)) space every
