@@ -1,5 +1,5 @@
 -- What every command keeps of a card and its volatile state, for any device that meets a few laws, and for the AT88SC1608:
--- lengths, bytes, a valid fuse byte, a state in range. So 11, 5 and 12 never arise after the first call.
+-- lengths, bytes, a valid fuse byte, a state in range. So if the first call gets none of 11, 5 and 12, no later one does.
 use Prim.Native.Nat.{ℕ, _≤_, _<_, _/_}
 use mathlib.Core.Bool.{true, false, not, _&&_}
 use mathlib.Core.List.{List}
