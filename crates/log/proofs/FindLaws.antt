@@ -4,9 +4,10 @@ use mathlib.Core.Bool.{Bool, true, false, not}
 use mathlib.Core.List.{List}
 use mathlib.Core.Path.{_≡_, sym, _∙_}
 use borrow.Author.Tests.{lt-ltb, le-ltb, not-true, not-false}
-use Rattle.model.specs.Log.{lengthAt, nextEntry, countOf, offsetOf, trailerOk, valid, find, missing, located}
+use Rattle.model.specs.Log.{Found, lengthAt, nextEntry, countOf, offsetOf, trailerOk, valid, find, missing, located}
 use Rattle.model.specs.Refusal.{notALog, noSuchAnswer}
-use Rattle.properties.specs.LogLaws.{Trailed, trailed, entry-ends}
+use Rattle.properties.specs.LogLaws.{Trailed, trailed, entry-ends, answer-within}
+use Rattle.log.specs.Found.{Within}
 use Rattle.log.specs.Scan.{Scanned}
 
 module _ (l : List ℕ) (k : ℕ) (ok : Bool) (trailer : ok ≡ trailerOk l) where
@@ -37,3 +38,8 @@ module _ (l : List ℕ) (k : ℕ) (ok : Bool) (trailer : ok ≡ trailerOk l) whe
         answer-at n h e =
             let q = pass .kept (not-false ok′ fine) h in
             rw (← trailer, not-false ok well, ← counted, ← points, ← (pass .all), not-false ok′ fine, lt-ltb _ _ h, e, q)
+
+-- what is found lies within the log
+pub found-within : (l : List ℕ) (k : ℕ) (f : Found) → f ≡ find l k → Within l f
+found-within l k (missing n) e = tt
+found-within l k (located from n) e = answer-within l k from n (sym e)

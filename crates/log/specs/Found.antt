@@ -1,4 +1,7 @@
 -- What the code finds, as the model has it.
+use Prim.Native.Nat.{ℕ, _+_, _≤_}
+use mathlib.Core.List.{List}
+use lib.ListN.{length}
 use Rattle.model.specs.Log as model
 use Rattle.record.specs.RefusalNumber.{refusalNumber}
 use Rattle.log.specs.declared.find.Found.{Found}
@@ -7,3 +10,8 @@ use Rattle.log.specs.declared.find.Found.the-variants as found
 abbrev pub foundOf : Found → model.Found
 foundOf (found.Refused why) = model.missing (refusalNumber why)
 foundOf (found.At from n) = model.located from n
+
+-- what is found lies within a log
+abbrev pub Within : List ℕ → model.Found → Type 0
+Within l (model.missing n) = Unit {0}
+Within l (model.located from n) = from + n ≤ length l

@@ -1,4 +1,5 @@
--- What one pass over the entries tells.
+-- What one pass over the entries tells: whether they are all well and end at a place, and where the entry with a number lies.
+-- `place` is left open in two cases: where the entries are not all well (ok is false), and where no entry has the number (number is count or more).
 use Prim.Native.Nat.{ℕ, _<_}
 use mathlib.Core.Bool.{Bool, true}
 use mathlib.Core.List.{List}

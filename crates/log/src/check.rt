@@ -8,7 +8,6 @@ ghost use Rattle.model.specs.Record.{lengthFits};
 ghost use Rattle.log.specs.Scan.{Scanned};
 use record::decoder::both;
 use record::number::get2;
-use record::number::get4;
 
 // Whether a response to a kind can be this long.
 fn length_fits(kind: u8, response: usize) -> bool

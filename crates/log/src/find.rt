@@ -1,7 +1,9 @@
 // An answer found in a log.
 ghost use mathlib.Core.Path.{_≡_};
+ghost use Prim.Native.Nat.{_+_, _-_, _≤_};
+ghost use lib.ListN.{length, take, drop};
 ghost use Rattle.model.specs.Log as model;
-ghost use Rattle.log.specs.Found.{foundOf};
+ghost use Rattle.log.specs.Found.{foundOf, Within};
 use crate::check::scan;
 use access::rights::is_fuse_byte;
 use record::number::get2;
@@ -63,15 +65,38 @@ pub fn find(log: &[u8], number: usize) -> Found
     Found::At(place + 3, get2(log, place + 1))
 }
 
-// The answer itself, as a part of the log; the empty part where there is none.
-pub fn answer(log: &[u8], number: usize) -> &[u8]
-    ensures { λ r. ⌜ now r ≡ model.answerIn (now (log .entry)) (model.find (now (log .entry)) number) ⌝ }
+// The part of a log between two places.
+fn part(log: &[u8], from: usize, to: usize) -> &[u8]
+    requires { ⌜ (from ≤ to) × (to ≤ length (now log)) ⌝ }
+    ensures { λ r. ⌜ now r ≡ take (to - from) (drop from (now (log .entry))) ⌝ }
 {
-    match find(log, number) {
-        Found::Refused(_) => &log[0..0],
-        Found::At(from, length) => {
-            let to = from + length;
-            &log[from..to]
-        }
+    &log[from..to]
+}
+
+// The part of the log that is found; the empty part where it is a refusal.
+fn part_found(log: &[u8], found: Found) -> &[u8]
+    requires { ⌜ Within (now log) (foundOf found) ⌝ }
+    ensures { λ r. ⌜ now r ≡ model.answerIn (now (log .entry)) (foundOf found) ⌝ }
+{
+    match found {
+        Found::Refused(_) => part(log, 0, 0),
+        Found::At(from, length) => part(log, from, from + length),
+    }
+}
+
+// An answer read from a log: a refusal or where it lies, and its bytes, a part of the log; no bytes where it is refused.
+pub struct Answer<'a> {
+    pub found: Found,
+    pub bytes: &'a [u8],
+}
+
+// Reads answer number, from 0. An answer without bytes is told from a refusal by what is found.
+pub fn read_answer<'a>(log: &'a [u8], number: usize) -> Answer<'a>
+    ensures { λ r. ⌜ (foundOf (r .found) ≡ model.find (now (log .entry)) number) × (now (r .bytes) ≡ model.answerIn (now (log .entry)) (foundOf (r .found))) ⌝ }
+{
+    let found = find(log, number);
+    Answer {
+        found,
+        bytes: part_found(log, found),
     }
 }
