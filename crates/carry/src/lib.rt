@@ -41,7 +41,8 @@ pub fn carry_out(
     response: &mut [u8],
 ) -> Volatile
     requires { ⌜ Ready (now card) (volatileOf state) (commandOf (now «record») end kind) (now «record») end (now response) ⌝ }
-    ensures { λ r. ⌜ Carried (now (card .entry)) (volatileOf state) (commandOf (now («record» .entry)) end kind) (now (response .entry)) (now (card .exit)) (volatileOf r) (now (response .exit)) ⌝ }
+    ensures { λ r. ⌜ Carried (now (card .entry)) (volatileOf state) (commandOf (now («record» .entry)) end kind) (now (response .entry))
+        (now (card .exit)) (volatileOf r) (now (response .exit)) ⌝ }
 {
     match kind {
         Record::PowerCycle => power_up(),

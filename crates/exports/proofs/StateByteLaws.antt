@@ -12,7 +12,8 @@ use Rattle.record.specs.RefusalNumber.{number-some, outcomeNumber}
 use Rattle.record.specs.declared.refusal.Refusal.{Refusal}
 use Rattle.record.specs.declared.refusal.Outcome.{Outcome}
 use Rattle.record.specs.declared.refusal.Outcome.the-variants as outcome
-use Rattle.exports.specs.StateBytes.{activeFlag, activeSelector, authenticationByte, activeInRange, isState, activeRead, authenticationRead, noState, stateOf, stateAfter}
+use Rattle.exports.specs.StateBytes.{activeFlag, activeSelector, authenticationByte, activeInRange, isState, activeRead, authenticationRead, noState}
+use Rattle.exports.specs.StateBytes.{stateOf, stateAfter}
 use Rattle.exports.specs.StateLaws.{state-long}
 
 -- ---- whether bytes stand for a state

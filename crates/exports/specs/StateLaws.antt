@@ -12,7 +12,8 @@ use Rattle.laws.specs.BoolLaws.{and-left, and-right}
 use Rattle.model.specs.At88sc1608.{at88sc1608}
 use Rattle.model.specs.Single.{activeBelow, stateInRange}
 use Rattle.model.specs.Volatile.{Volatile, Active, none, selector, Authentication, idle, begun, granted}
-use Rattle.exports.specs.StateBytes.{activeFlag, activeSelector, authenticationByte, stateBytes, activeInRange, isState, activeRead, authenticationRead, stateOf}
+use Rattle.exports.specs.StateBytes.{activeFlag, activeSelector, authenticationByte, stateBytes, activeInRange, isState, activeRead}
+use Rattle.exports.specs.StateBytes.{authenticationRead, stateOf}
 
 abbrev state : ℕ → Active → Authentication → Volatile
 state z a u = record { zone = z; active = a; authentication = u }

@@ -33,7 +33,8 @@ pub extern "C" fn at88sc1608_command(
     record: &[u8],
     response: &mut [u8],
 ) -> u64
-    ensures { λ r. ⌜ commandCall r (now (card .exit)) (now (state .exit)) (now (response .exit)) ≡ exportedCommand (now (card .entry)) (now (state .entry)) (now («record» .entry)) (now (response .entry)) ⌝ }
+    ensures { λ r. ⌜ commandCall r (now (card .exit)) (now (state .exit)) (now (response .exit))
+        ≡ exportedCommand (now (card .entry)) (now (state .entry)) (now («record» .entry)) (now (response .entry)) ⌝ }
 {
     let before = read_state(state);
     let reply = command(card, before, record, response);

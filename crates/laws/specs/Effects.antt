@@ -9,7 +9,8 @@ use lib.ListN.{length, set}
 use Rattle.model.specs.Lists.{at, sameList, stores}
 use Rattle.laws.specs.ListLaws.{length-tab}
 use Rattle.model.specs.Volatile.{Volatile, none, selector, idle, begun, granted, powerUp, isBegun, selecting, activating, authenticating}
-use Rattle.model.specs.Command.{Command, powerCycle, reset, select, readZone, writeZone, readConfiguration, writeConfiguration, readFuses, writeFuses, verifyPassword, beginAuthentication, verifyAuthentication}
+use Rattle.model.specs.Command.{Command, powerCycle, reset, select, readZone, writeZone, readConfiguration, writeConfiguration, readFuses, writeFuses}
+use Rattle.model.specs.Command.{verifyPassword, beginAuthentication, verifyAuthentication}
 use Rattle.model.specs.Device.{Device, Counter, ofPassword, ofAuthentication, counterPlace}
 use Rattle.model.specs.Apply.{fullCounter, attemptOf, judgementOf, rules, kept, password, presented, started, judged, apply}
 

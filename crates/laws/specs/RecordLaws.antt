@@ -14,7 +14,8 @@ use Rattle.laws.specs.BoolLaws.{choice, and-left, and-right}
 use Rattle.laws.specs.KindLaws.{each-kind, each-row}
 use Rattle.model.specs.Call.{whole}
 use Rattle.laws.specs.CallLaws.{past}
-use Rattle.model.specs.Command.{Command, powerCycle, reset, select, readZone, writeZone, readConfiguration, writeConfiguration, readFuses, writeFuses, verifyPassword, beginAuthentication, verifyAuthentication}
+use Rattle.model.specs.Command.{Command, powerCycle, reset, select, readZone, writeZone, readConfiguration, writeConfiguration, readFuses, writeFuses}
+use Rattle.model.specs.Command.{verifyPassword, beginAuthentication, verifyAuthentication}
 use Rattle.model.specs.Record.{Kind, kinds, known, fixedFields, inRange, dataLength, made, dataAt, recordLength, decode}
 
 -- the data of a record

@@ -27,7 +27,8 @@ use Rattle.model.specs.Apply as any
 use Rattle.model.specs.Record.{decode}
 use Rattle.laws.specs.RecordLaws.{Fields, decode-fields}
 use Rattle.model.specs.Single.{isFuseByte, stateInRange, checkOf, check, apply, final}
-use Rattle.laws.specs.Effects.{carried, Change, writes, fills, spends, renews, blows, changes, Move, stays, powers, resets, selects, opens, closes, begins, grants, denies, moves}
+use Rattle.laws.specs.Effects.{carried, Change, writes, fills, spends, renews, blows, changes, Move, stays, powers, resets, selects, opens, closes}
+use Rattle.laws.specs.Effects.{begins, grants, denies, moves}
 
 -- Laws of a device: what it computes of bytes are bytes, and its fuse byte is moved by write fuses alone, from stage to stage.
 pub record Sound (D : Device) : Type 0 where

@@ -14,7 +14,8 @@ pub mod lines;
 
 // A session run in a log space, and its listing. What is given back says how much of the listing stands in the text space.
 pub fn list(session: &[u8], log: &mut [u8], text: &mut [u8]) -> usize
-    ensures { λ r. ⌜ record { size = r; log = now (log .exit); text = now (text .exit) } ≡ model.listIn (now (session .entry)) (now (log .entry)) (now (text .entry)) ⌝ }
+    ensures { λ r. ⌜ record { size = r; log = now (log .exit); text = now (text .exit) }
+        ≡ model.listIn (now (session .entry)) (now (log .entry)) (now (text .entry)) ⌝ }
 {
     let ran = run(session, log);
     let outcome = ran.outcome;

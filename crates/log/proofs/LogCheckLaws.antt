@@ -78,7 +78,8 @@ module _ (l : List ℕ) (count end number i place kept : ℕ) (p : Passing l cou
   one-fewer : i < count → entriesOk (count - i) l place end ≡ (entryOk l place end && entriesOk (count - (i + 1)) l (nextEntry l place) end)
   one-fewer h = let e : count - i ≡ suc (count - (i + 1)) = omega arith in ap (λ (n : ℕ). entriesOk n l place end) e
 
-  pub passing-next : (n kept′ : ℕ) (ok : Bool) → i < count → ok ≡ entryOk l place end → not ok ≡ false → n ≡ lengthAt l place → kept′ ≡ cond (eqb i number) place kept
+  pub passing-next : (n kept′ : ℕ) (ok : Bool) → i < count → ok ≡ entryOk l place end → not ok ≡ false → n ≡ lengthAt l place
+      → kept′ ≡ cond (eqb i number) place kept
       → Passing l count end number (i + 1) (place + 3 + n) kept′
   passing-next n kept′ ok h o t q k =
       let fine : entryOk l place end ≡ true = sym o ∙ not-false ok t in

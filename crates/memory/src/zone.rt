@@ -25,7 +25,8 @@ use slices::least;
 // zone may not be read.
 fn roll(card: &[u8], base: usize, address: usize, count: usize, readable: bool, response: &mut [u8])
     requires { ⌜ (base + 256 ≤ length (now card)) × (address < 256) × (count ≤ length (now response)) ⌝ }
-    ensures { λ _. ⌜ now (response .exit) ≡ tab (λ k. cond readable (at (now (card .entry)) (base + (address + k) % 256)) 0) count ++ drop count (now (response .entry)) ⌝ }
+    ensures { λ _. ⌜ now (response .exit)
+        ≡ tab (λ k. cond readable (at (now (card .entry)) (base + (address + k) % 256)) 0) count ++ drop count (now (response .entry)) ⌝ }
 {
     if !readable {
         clear(response, count);
@@ -44,7 +45,8 @@ fn roll(card: &[u8], base: usize, address: usize, count: usize, readable: bool, 
 // helper: read zone.
 pub fn read_zone(card: &[u8], state: Volatile, address: u8, count: usize, response: &mut [u8])
     requires { ⌜ (length (now card) ≡ cardSize) × (state .zone .0 < 8) × (count ≤ length (now response)) ⌝ }
-    ensures { λ _. ⌜ now (response .exit) ≡ apply (now (card .entry)) (volatileOf state) (readZone address count) .report .answer ++ drop count (now (response .entry)) ⌝ }
+    ensures { λ _. ⌜ now (response .exit)
+        ≡ apply (now (card .entry)) (volatileOf state) (readZone address count) .report .answer ++ drop count (now (response .entry)) ⌝ }
 {
     let zone = state.zone.0 as usize;
     let readable = zone_readable(card[FUSES], card[REGISTERS + zone], state);

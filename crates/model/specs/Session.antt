@@ -8,7 +8,8 @@ use Rattle.model.specs.Sizes.{cardSize, fuseAt, trailerSize, leastSessio
 use Rattle.model.specs.Lists.{at}
 use Rattle.model.specs.Numbers.{numberAt}
 use Rattle.model.specs.Volatile.{Volatile, powerUp}
-use Rattle.model.specs.Command.{Command, powerCycle, reset, select, readZone, writeZone, readConfiguration, writeConfiguration, readFuses, writeFuses, verifyPassword, beginAuthentication, verifyAuthentication}
+use Rattle.model.specs.Command.{Command, powerCycle, reset, select, readZone, writeZone, readConfiguration, writeConfiguration, readFuses, writeFuses}
+use Rattle.model.specs.Command.{verifyPassword, beginAuthentication, verifyAuthentication}
 use Rattle.model.specs.Call.{Powered, powered, Decoded, refused, whole}
 use Rattle.model.specs.Refusal.{sessionLength, sessionTrailer, startOutOfRange, tooManyRecords, fuseByte, bytesLeft, noSpace}
 use Rattle.model.specs.Log.{Entry, logBytes}

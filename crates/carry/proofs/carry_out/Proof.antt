@@ -44,13 +44,17 @@ enum-known-kind-3 c = search needs
 
 sub-write-zone : tie.Need-sub-write-zone
 sub-write-zone c =
+    let kind3 = c .before .before .kind3 in
     let start = c .before .before .before .before .before .before .before in
-    let f = rw (c .before .before .kind3 .given .1) at (start .pre .fields) in omega (arith, between-some 3 (start .args .end) (start .args .«record» .now) (f .0))
+    let f = rw (kind3 .given .1) at (start .pre .fields) in
+    omega (arith, between-some 3 (start .args .end) (start .args .«record» .now) (f .0))
 
 part-write-zone-start : tie.Need-part-write-zone-start
 part-write-zone-start c =
+    let kind3 = c .before .before .kind3 in
     let start = c .before .before .before .before .before .before .before in
-    let f = rw (c .before .before .kind3 .given .1) at (start .pre .fields) in omega (arith, between-some 3 (start .args .end) (start .args .«record» .now) (f .0))
+    let f = rw (kind3 .given .1) at (start .pre .fields) in
+    omega (arith, between-some 3 (start .args .end) (start .args .«record» .now) (f .0))
 
 part-write-zone-end : tie.Need-part-write-zone-end
 part-write-zone-end c = search needs
@@ -75,13 +79,17 @@ enum-known-kind-5 c = search needs
 
 sub-write-configuration : tie.Need-sub-write-configuration
 sub-write-configuration c =
+    let kind5 = c .before .before .kind5 in
     let start = c .before .before .before .before .before .before .before in
-    let f = rw (c .before .before .kind5 .given .1) at (start .pre .fields) in omega (arith, between-some 3 (start .args .end) (start .args .«record» .now) (f .1))
+    let f = rw (kind5 .given .1) at (start .pre .fields) in
+    omega (arith, between-some 3 (start .args .end) (start .args .«record» .now) (f .1))
 
 part-write-configuration-start : tie.Need-part-write-configuration-start
 part-write-configuration-start c =
+    let kind5 = c .before .before .kind5 in
     let start = c .before .before .before .before .before .before .before in
-    let f = rw (c .before .before .kind5 .given .1) at (start .pre .fields) in omega (arith, between-some 3 (start .args .end) (start .args .«record» .now) (f .1))
+    let f = rw (kind5 .given .1) at (start .pre .fields) in
+    omega (arith, between-some 3 (start .args .end) (start .args .«record» .now) (f .1))
 
 part-write-configuration-end : tie.Need-part-write-configuration-end
 part-write-configuration-end c = search needs
@@ -111,13 +119,17 @@ enum-known-kind-6 c = search needs
 
 sub-verify-password : tie.Need-sub-verify-password
 sub-verify-password c =
+    let kind6 = c .before .before .kind6 in
     let start = c .before .before .before .before .before .before .before in
-    let f = rw (c .before .before .kind6 .given .1) at (start .pre .fields) in omega (arith, between-some 2 (start .args .end) (start .args .«record» .now) (omega (arith, f .1)))
+    let f = rw (kind6 .given .1) at (start .pre .fields) in
+    omega (arith, between-some 2 (start .args .end) (start .args .«record» .now) (omega (arith, f .1)))
 
 part-verify-password-start : tie.Need-part-verify-password-start
 part-verify-password-start c =
+    let kind6 = c .before .before .kind6 in
     let start = c .before .before .before .before .before .before .before in
-    let f = rw (c .before .before .kind6 .given .1) at (start .pre .fields) in omega (arith, between-some 2 (start .args .end) (start .args .«record» .now) (omega (arith, f .1)))
+    let f = rw (kind6 .given .1) at (start .pre .fields) in
+    omega (arith, between-some 2 (start .args .end) (start .args .«record» .now) (omega (arith, f .1)))
 
 part-verify-password-end : tie.Need-part-verify-password-end
 part-verify-password-end c = search needs
@@ -139,13 +151,17 @@ enum-known-kind-7 c = search needs
 
 sub-verify-authentication : tie.Need-sub-verify-authentication
 sub-verify-authentication c =
+    let kind7 = c .before .before .kind7 in
     let start = c .before .before .before .before .before .before .before in
-    let f = rw (c .before .before .kind7 .given .1) at (start .pre .fields) in omega (arith, between-some 2 (start .args .end) (start .args .«record» .now) (omega (arith, f)))
+    let f = rw (kind7 .given .1) at (start .pre .fields) in
+    omega (arith, between-some 2 (start .args .end) (start .args .«record» .now) (omega (arith, f)))
 
 part-verify-authentication-start : tie.Need-part-verify-authentication-start
 part-verify-authentication-start c =
+    let kind7 = c .before .before .kind7 in
     let start = c .before .before .before .before .before .before .before in
-    let f = rw (c .before .before .kind7 .given .1) at (start .pre .fields) in omega (arith, between-some 2 (start .args .end) (start .args .«record» .now) (omega (arith, f)))
+    let f = rw (kind7 .given .1) at (start .pre .fields) in
+    omega (arith, between-some 2 (start .args .end) (start .args .«record» .now) (omega (arith, f)))
 
 part-verify-authentication-end : tie.Need-part-verify-authentication-end
 part-verify-authentication-end c = search needs
@@ -169,8 +185,9 @@ same-length-2 c = search needs
 returns-2 : tie.Need-returns-2
 unfolding any.apply
 returns-2 c =
+    let answer-to-reset = c .before .before .answer-to-reset in
     let enum-told2 = c .before .before .before .before .before .enum-told2 in
-    rw (enum-told2 .given .1) (record { card = refl; state = c .before .before .answer-to-reset .ensures .0; answer = c .before .before .answer-to-reset .ensures .1 })
+    rw (enum-told2 .given .1) (record { card = refl; state = answer-to-reset .ensures .0; answer = answer-to-reset .ensures .1 })
 
 returns-3 : tie.Need-returns-3
 unfolding any.apply
@@ -245,8 +262,9 @@ same-length-12 c = search needs
 returns-10 : tie.Need-returns-10
 unfolding any.apply
 returns-10 c =
+    let verify-password = c .before .before .verify-password in
     let kind6 = c .before .before .before .before .before .before .kind6 in
-    rw (kind6 .given .1) (record { card = c .before .before .verify-password .ensures .1; state = c .before .before .verify-password .ensures .0; answer = refl })
+    rw (kind6 .given .1) (record { card = verify-password .ensures .1; state = verify-password .ensures .0; answer = refl })
 
 same-length-13 : tie.Need-same-length-13
 same-length-13 c = search needs
@@ -254,8 +272,9 @@ same-length-13 c = search needs
 returns-11 : tie.Need-returns-11
 unfolding any.apply
 returns-11 c =
+    let begin-authentication = c .before .before .begin-authentication in
     let enum-told5 = c .before .before .before .before .enum-told5 in
-    rw (enum-told5 .given .1) (record { card = c .before .before .begin-authentication .ensures .1; state = c .before .before .begin-authentication .ensures .0; answer = refl })
+    rw (enum-told5 .given .1) (record { card = begin-authentication .ensures .1; state = begin-authentication .ensures .0; answer = refl })
 
 same-length-14 : tie.Need-same-length-14
 same-length-14 c = search needs
@@ -263,8 +282,9 @@ same-length-14 c = search needs
 returns-12 : tie.Need-returns-12
 unfolding any.apply
 returns-12 c =
+    let verify-authentication = c .before .before .verify-authentication in
     let kind7 = c .before .before .before .before .before .before .kind7 in
-    rw (kind7 .given .1) (record { card = c .before .before .verify-authentication .ensures .1; state = c .before .before .verify-authentication .ensures .0; answer = refl })
+    rw (kind7 .given .1) (record { card = verify-authentication .ensures .1; state = verify-authentication .ensures .0; answer = refl })
 
 pub carry-out-spec : {M : Type 1} → statement M
 carry-out-spec =

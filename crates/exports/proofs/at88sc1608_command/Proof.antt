@@ -19,7 +19,9 @@ write-state-requires c κs =
 
 result-number-requires : tie.Need-result-number-requires
 result-number-requires c κs =
-    let shared-slice-known = c .before .before .before .before .before .before .before .before .before .before .before .before .before .before .before .shared-slice-known in
+    let shared-slice-known =
+    c .before .before .before .before .before .before .before .before .before .before .before .before
+    .before .before .before .shared-slice-known in
     let read-state = c .before .before .before .before .before .before .before .before .before .before .before .before .read-state in
     let command = c .before .before .before .before .before .before .before .before .before .command in
     response-fits _ _ _ _ _ (read-state .ensures) _ (command .ensures) (λ i. omega (arith, shared-slice-known .given i))

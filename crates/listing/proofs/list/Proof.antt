@@ -66,7 +66,9 @@ same-length-4 c = put-length _ _ _ _ _ (c .before .before .before .put-log .ensu
 
 returns-2 : tie.Need-returns-2
 returns-2 c =
-    let shared-slice-known = c .before .before .before .before .before .before .before .before .before .before .before .before .before .before .shared-slice-known in
+    let shared-slice-known =
+    c .before .before .before .before .before .before .before .before .before .before .before .before
+    .before .before .shared-slice-known in
     let run = c .before .before .before .before .before .before .before .before .before .before .run in
     let enum-told = c .before .before .before .before .before .before .enum-told in
     let put-log = c .before .before .before .put-log in

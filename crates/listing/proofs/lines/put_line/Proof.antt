@@ -71,8 +71,12 @@ same-length c = search needs
 returns : tie.Need-returns
 returns c =
     let put = c .before .before .put in
-    let start = c .before .before .before .before .before .before .before .before .before .before .before .before .before .before .before .before .before .before .before .before in
-    let put-decimal = c .before .before .before .before .before .before .before .before .before .before .before .before .before .before .before .before .put-decimal in
+    let start =
+    c .before .before .before .before .before .before .before .before .before .before .before .before
+    .before .before .before .before .before .before .before .before in
+    let put-decimal =
+    c .before .before .before .before .before .before .before .before .before .before .before .before
+    .before .before .before .before .put-decimal in
     let put-hex = c .before .before .before .before .before .before .before .before .before .before .before .put-hex in
     let put-hexes = c .before .before .before .before .before .before .put-hexes in
     line-put _ (lists.at (start .args .entry .now) 0) (drop 3 (start .args .entry .now)) _ _ _ _ _ _ _ _ _ _ (put-decimal .ensures) (put-hex .ensures)

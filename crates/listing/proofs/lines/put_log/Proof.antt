@@ -60,7 +60,9 @@ put-hex-requires c κs =
 
 put-requires : tie.Need-put-requires
 put-requires c κs =
-    let start = c .before .before .before .before .before .before .before .before .before .before .before .before .before .before .before .before .before .before .before in
+    let start =
+    c .before .before .before .before .before .before .before .before .before .before .before .before
+    .before .before .before .before .before .before .before in
     let get4 = c .before .before .before .before .before .before .before .before .before .before .before .before .before .before .before .before .get4 in
     let get2 = c .before .before .before .before .before .before .before .before .before .before .before .before .before .before .get2 in
     let put-entries = c .before .before .before .before .before .before .before .before .before .before .before .before .before .put-entries in
@@ -77,10 +79,18 @@ same-length c = search needs
 returns : tie.Need-returns
 returns c =
     let put = c .before .before .put in
-    let start = c .before .before .before .before .before .before .before .before .before .before .before .before .before .before .before .before .before .before .before .before .before .before in
-    let get4 = c .before .before .before .before .before .before .before .before .before .before .before .before .before .before .before .before .before .before .before .get4 in
-    let get2 = c .before .before .before .before .before .before .before .before .before .before .before .before .before .before .before .before .before .get2 in
-    let put-entries = c .before .before .before .before .before .before .before .before .before .before .before .before .before .before .before .before .put-entries in
+    let start =
+    c .before .before .before .before .before .before .before .before .before .before .before .before
+    .before .before .before .before .before .before .before .before .before .before in
+    let get4 =
+    c .before .before .before .before .before .before .before .before .before .before .before .before
+    .before .before .before .before .before .before .before .get4 in
+    let get2 =
+    c .before .before .before .before .before .before .before .before .before .before .before .before
+    .before .before .before .before .before .get2 in
+    let put-entries =
+    c .before .before .before .before .before .before .before .before .before .before .before .before
+    .before .before .before .before .put-entries in
     let put-all = c .before .before .before .before .before .before .before .before .before .before .before .put-all in
     let put-hex = c .before .before .before .before .before .before .put-hex in
     log-put _ (start .pre) _ _ (get2 .ensures .0) (get4 .ensures .0) _ _ _ _ _ _ _ _ _ (put-entries .ensures) (put-all .ensures) (put-hex .ensures)

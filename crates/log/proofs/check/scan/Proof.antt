@@ -45,10 +45,11 @@ loop-less c = search needs
 
 loop-again : tie.Need-loop-again Inv-loop μ-loop
 loop-again c =
+    let if1 = c .before .before .if1 in
     let the-loop = c .before .before .before .before .before .loop in
     let loop-test = c .before .before .before .before .loop-test in
     let entry-ok = c .before .before .before .entry-ok in
-    passing-next _ _ _ _ _ _ _ (the-loop .inv) _ _ _ (loop-test .taken) (entry-ok .ensures) (c .before .before .if1 .left) (c .get2 .ensures .0) (c .before .kept .ensures)
+    passing-next _ _ _ _ _ _ _ (the-loop .inv) _ _ _ (loop-test .taken) (entry-ok .ensures) (if1 .left) (c .get2 .ensures .0) (c .before .kept .ensures)
 
 returns-2 : tie.Need-returns-2 Inv-loop μ-loop
 returns-2 c = passing-done _ _ _ _ _ _ _ (c .before .loop .inv) (search needs)

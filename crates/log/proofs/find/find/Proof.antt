@@ -33,9 +33,12 @@ get4-requires c κs =
 
 scan-requires : tie.Need-scan-requires
 scan-requires c κs =
+    let if1 = c .before .before .if1 in
     let start = c .before .before .before .before .before in
     let trailer-ok = c .before .before .before .trailer-ok in
-    let t = trailer-is (start .args .log .now) (start .args .number) _ (trailer-ok .ensures) (c .before .before .if1 .left) in let g = c .get4 .ensures .0 in omega arith
+    let t = trailer-is (start .args .log .now) (start .args .number) _ (trailer-ok .ensures) (if1 .left) in
+    let g = c .get4 .ensures .0 in
+    omega arith
 
 returns-2 : tie.Need-returns-2
 returns-2 c =
@@ -64,7 +67,9 @@ add-t11 c =
     let scan = c .before .before .before .scan in
     let t = trailer-is (start .args .log .now) (start .args .number) _ (trailer-ok .ensures) (if1 .left) in
     let g = get4 .ensures .0 in
-    let p = place-ends _ _ _ (trailer-ok .ensures) (if1 .left) _ _ _ _ (get2 .ensures .0) (get4 .ensures .0) (scan .ensures) (c .before .if2 .left) (c .if3 .left) in omega arith
+    let p = place-ends _ _ _ (trailer-ok .ensures) (if1 .left) _ _ _ _ (get2 .ensures .0) (get4 .ensures .0) (scan .ensures) (c .before .if2 .left)
+    (c .if3 .left) in
+    omega arith
 
 add-get2 : tie.Need-add-get2
 add-get2 c =
@@ -76,7 +81,9 @@ add-get2 c =
     let scan = c .before .before .before .scan in
     let t = trailer-is (start .args .log .now) (start .args .number) _ (trailer-ok .ensures) (if1 .left) in
     let g = get4 .ensures .0 in
-    let p = place-ends _ _ _ (trailer-ok .ensures) (if1 .left) _ _ _ _ (get2 .ensures .0) (get4 .ensures .0) (scan .ensures) (c .before .if2 .left) (c .if3 .left) in omega arith
+    let p = place-ends _ _ _ (trailer-ok .ensures) (if1 .left) _ _ _ _ (get2 .ensures .0) (get4 .ensures .0) (scan .ensures) (c .before .if2 .left)
+    (c .if3 .left) in
+    omega arith
 
 get2-requires-2 : tie.Need-get2-requires-2
 get2-requires-2 c κs =
@@ -88,16 +95,20 @@ get2-requires-2 c κs =
     let scan = c .before .before .before .scan in
     let t = trailer-is (start .args .log .now) (start .args .number) _ (trailer-ok .ensures) (if1 .left) in
     let g = get4 .ensures .0 in
-    let p = place-ends _ _ _ (trailer-ok .ensures) (if1 .left) _ _ _ _ (get2 .ensures .0) (get4 .ensures .0) (scan .ensures) (c .before .if2 .left) (c .if3 .left) in omega arith
+    let p = place-ends _ _ _ (trailer-ok .ensures) (if1 .left) _ _ _ _ (get2 .ensures .0) (get4 .ensures .0) (scan .ensures) (c .before .if2 .left)
+    (c .if3 .left) in
+    omega arith
 
 returns-4 : tie.Need-returns-4
 returns-4 c =
+    let if2 = c .before .before .if2 in
     let trailer-ok = c .before .before .before .before .before .before .before .before .trailer-ok in
     let if1 = c .before .before .before .before .before .before .before .if1 in
     let get2 = c .before .before .before .before .before .before .get2 in
     let get4 = c .before .before .before .before .before .get4 in
     let scan = c .before .before .before .before .scan in
-    answer-at _ _ _ (trailer-ok .ensures) (if1 .left) _ _ _ _ (get2 .ensures .0) (get4 .ensures .0) (scan .ensures) (c .before .before .if2 .left) _ (c .before .if3 .left) (c .get22 .ensures .0)
+    answer-at _ _ _ (trailer-ok .ensures) (if1 .left) _ _ _ _ (get2 .ensures .0) (get4 .ensures .0) (scan .ensures) (if2 .left) _ (c .before .if3 .left)
+    (c .get22 .ensures .0)
 
 pub find-spec : {M : Type 1} → statement M
 find-spec =

@@ -26,7 +26,11 @@ add-log-2 : tie.Need-add-log-2
 add-log-2 c = search needs
 
 slice-write-log-2 : tie.Need-slice-write-log-2
-slice-write-log-2 c = let g = c .before .before .put2 .kept .0 ∙ c .before .before .before .before .before .before .put4 .kept .0 in simp length-set (omega arith)
+slice-write-log-2 c =
+    let put4 = c .before .before .before .before .before .before .put4 in
+    let put2 = c .before .before .put2 in
+    let g = put2 .kept .0 ∙ put4 .kept .0 in
+    simp length-set (omega arith)
 
 same-length : tie.Need-same-length
 same-length c =
