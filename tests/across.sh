@@ -24,12 +24,10 @@ try() { # EDIT
     name=$(basename "$1" .edit) room=$work/$(basename "$1" .edit) by='' file='' old=''
     mkdir -p "$room/crates"
     by=$(sed -n 's/^refused-by: //p' "$1")
-    cp -R "$top/crates/model" "$top/crates/laws" "$room/crates/"
-    printf 'model:\nlaws: model\n' >"$room/crates.txt"
-    if [ "$by" != laws ]; then
-        cp -R "$top/crates/$by" "$room/crates/"
-        printf '%s: model laws\n' "$by" >>"$room/crates.txt"
-    fi
+    for crate in $(sed -n "s/^$by: *//p" "$top/crates.txt") "$by"; do
+        cp -R "$top/crates/$crate" "$room/crates/"
+        grep "^$crate:" "$top/crates.txt" >>"$room/crates.txt"
+    done
     for table in Cases Mistakes; do
         rm "$room/crates/model/specs/$table.antt"
         replace "$room/crates/model/specs/Lib.antt" "pub mod $table"$'\n' ''
