@@ -4,6 +4,7 @@ ghost use mathlib.Core.Bool.{cond, _||_};
 ghost use Prim.Native.Nat.{_+_, _<_};
 ghost use Rattle.model.specs.Access.{met, zoneReads, zoneWrites, zoneReadable, zoneWritable, areaOf, stageOf};
 ghost use Rattle.model.specs.Access as model;
+ghost use Rattle.model.specs.Lists.{at};
 ghost use Rattle.model.specs.Single.{isFuseByte};
 ghost use Rattle.access.specs.Column.{columnOf, columnAllows};
 ghost use Rattle.access.specs.State.{activeOf, volatileOf};
@@ -34,9 +35,6 @@ const PERMISSIONS: [[u8; 8]; 7] = [
     [FREE, FREE, FREE, SC, FREE, SC, FREE, WP],
 ];
 
-// The areas below $40, a hexadecimal digit for every four addresses: the last digit is that of $00-$03.
-const LOWER_AREAS: u64 = 0x4433_2222_2222_1000;
-
 // What is needed is given.
 fn is_met(needed: bool, given: bool) -> bool
     ensures { λ r. ⌜ r ≡ met needed given ⌝ }
@@ -47,7 +45,7 @@ fn is_met(needed: bool, given: bool) -> bool
     true
 }
 
-fn either(a: bool, b: bool) -> bool
+pub fn either(a: bool, b: bool) -> bool
     ensures { λ r. ⌜ r ≡ (a || b) ⌝ }
 {
     if a {
@@ -119,20 +117,6 @@ pub fn zone_writable(fuses: u8, register: u8, state: Volatile) -> bool
     either(fuses == 7, writes)
 }
 
-// The row of a configuration address in the table.
-pub fn area(address: u8) -> u8
-    ensures { λ r. ⌜ r ≡ areaOf address ⌝ }
-{
-    if address < 64 {
-        let digits = LOWER_AREAS >> (address / 4 * 4);
-        return (digits % 16) as u8;
-    }
-    if address % 4 == 0 {
-        return 6;
-    }
-    5
-}
-
 // The stage of a fuse byte.
 pub fn stage(fuses: u8) -> u8
     ensures { λ r. ⌜ r ≡ stageOf fuses ⌝ }
@@ -194,13 +178,37 @@ fn set_of(address: u8) -> PwSet
     PwSet((address - 64) / 8 % 8)
 }
 
+// The code of an address in a column. A test for each area, and no index, leaves a loop over addresses free of branches.
+fn code(codes: &[u8; 7], address: u8) -> u8
+    ensures { λ r. ⌜ r ≡ at (now (codes .entry)) (areaOf address) ⌝ }
+{
+    if address < 12 {
+        return codes[0];
+    }
+    if address < 16 {
+        return codes[1];
+    }
+    if address < 48 {
+        return codes[2];
+    }
+    if address < 56 {
+        return codes[3];
+    }
+    if address < 64 {
+        return codes[4];
+    }
+    if address % 4 == 0 {
+        return codes[6];
+    }
+    codes[5]
+}
+
 // Whether a configuration address may be reached, by the codes of a column.
 pub fn configuration_allows(codes: &[u8; 7], address: u8, active: Active) -> bool
     ensures { λ r. ⌜ r ≡ columnAllows (now (codes .entry)) address (activeOf active) ⌝ }
 {
-    let area = area(address) as usize;
     let set = set_of(address);
-    permits(codes[area], set, active)
+    permits(code(codes, address), set, active)
 }
 
 // F is 7, 6, 4 or 0.

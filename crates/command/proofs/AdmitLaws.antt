@@ -12,14 +12,15 @@ use Rattle.model.specs.Call.{refused, whole}
 use Rattle.model.specs.Call as calls
 use Rattle.model.specs.At88sc1608.{at88sc1608}
 use Rattle.laws.specs.Effects.{answerLength, answer-length}
-use Rattle.model.specs.Record.{decode}
+use Rattle.model.specs.Record.{made, decode}
 use Rattle.model.specs.Refusal.{cardLength, fuseByte, stateOutOfRange, bytesLeft, noSpace}
 use Rattle.model.specs.Single.{isFuseByte, stateInRange, checkOf, check, apply, admission}
-use Rattle.record.specs.DecodedRecord.{commandOf}
+use Rattle.record.specs.DecodedRecord.{commandOf, headOf}
+use Rattle.record.specs.HeadLaws.{head-known, head-answer}
 use Rattle.record.specs.RefusalNumber.{refusalNumber, number-some}
+use Rattle.record.specs.declared.decoder.Head.{Head}
 use Rattle.record.specs.declared.decoder.Record.{Record}
 use Rattle.record.specs.declared.refusal.Refusal.{Refusal}
-use Rattle.record.specs.RecordAlone.{answer-alone}
 
 -- ---- the checks
 
@@ -59,14 +60,20 @@ module _ (c : List ℕ) (s : Volatile) (bytes : List ℕ) (room : ℕ) where
       unfolding calls.admission
       left-over l = rw (← passed, ← decoded, lt-ltb _ _ l)
 
-      module _ (m : ℕ) (all : length bytes ≤ n) (long : m ≡ answerLength at88sc1608 (commandOf [] 0 r)) where
-        answered : length (apply c s (commandOf bytes n r) .report .answer) ≡ m
-        answered = answer-length at88sc1608 c s (commandOf bytes n r) ∙ answer-alone bytes n r ∙ sym long
+      module _ (h : Head) (head : h ≡ headOf bytes) where
+        pub known-head : h .kind ≤ 12
+        known-head = head-known bytes (commandOf bytes n r) n (sym decoded) h head
 
-        pub no-room : room < m → refused noSpace ≡ admission c s bytes room
-        unfolding calls.admission
-        no-room l = rw (← passed, ← decoded, le-ltb _ _ all, answered, lt-ltb _ _ l)
+        module _ (m : ℕ) (all : length bytes ≤ n) (long : m ≡ answerLength at88sc1608 (made (h .kind) 0 (h .n) [])) where
+          answered : length (apply c s (commandOf bytes n r) .report .answer) ≡ m
+          answered =
+              answer-length at88sc1608 c s (commandOf bytes n r)
+              ∙ sym (head-answer bytes (commandOf bytes n r) n (sym decoded) h head) ∙ sym long
 
-        pub is-admitted : m ≤ room → whole (commandOf bytes n r) n ≡ admission c s bytes room
-        unfolding calls.admission
-        is-admitted l = rw (← passed, ← decoded, le-ltb _ _ all, answered, le-ltb _ _ l)
+          pub no-room : room < m → refused noSpace ≡ admission c s bytes room
+          unfolding calls.admission
+          no-room l = rw (← passed, ← decoded, le-ltb _ _ all, answered, lt-ltb _ _ l)
+
+          pub is-admitted : m ≤ room → whole (commandOf bytes n r) n ≡ admission c s bytes room
+          unfolding calls.admission
+          is-admitted l = rw (← passed, ← decoded, le-ltb _ _ all, answered, le-ltb _ _ l)

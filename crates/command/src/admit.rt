@@ -10,6 +10,7 @@ use access::volatile::Active;
 use access::volatile::Volatile;
 use record::decoder::Decoded;
 use record::decoder::decode;
+use record::decoder::head_of;
 use record::kind::answer_length;
 use record::refusal::Outcome;
 use record::refusal::Refusal;
@@ -67,7 +68,8 @@ pub fn admit(card: &[u8], state: Volatile, record: &[u8], room: usize) -> Decode
             if end < record.len() {
                 return Decoded::Refused(Refusal::BytesLeft);
             }
-            if room < answer_length(kind) as usize {
+            let head = head_of(record);
+            if room < answer_length(head.kind, head.n) as usize {
                 return Decoded::Refused(Refusal::NoSpace);
             }
             Decoded::Whole(kind, end)

@@ -8,6 +8,7 @@ use crate::admit::admit;
 use access::volatile::Volatile;
 use carry::carry_out;
 use record::decoder::Decoded;
+use record::decoder::head_of;
 use record::kind::answer_length;
 use record::refusal::Outcome;
 
@@ -22,7 +23,8 @@ pub struct Reply {
 
 // One command on a card. A refusal hands the state back and changes nothing.
 pub fn command(card: &mut [u8], state: Volatile, record: &[u8], response: &mut [u8]) -> Reply
-    ensures { λ r. ⌜ calledOf r (now (card .exit)) (now (response .exit)) ≡ model.command (now (card .entry)) (volatileOf state) (calling (now («record» .entry)) (now (response .entry))) ⌝ }
+    ensures { λ r. ⌜ calledOf r (now (card .exit)) (now (response .exit))
+        ≡ model.command (now (card .entry)) (volatileOf state) (calling (now («record» .entry)) (now (response .entry))) ⌝ }
 {
     let room = response.len();
     match admit(card, state, record, room) {
@@ -32,7 +34,8 @@ pub fn command(card: &mut [u8], state: Volatile, record: &[u8], response: &mut [
             state,
         },
         Decoded::Whole(kind, end) => {
-            let length = answer_length(kind) as usize;
+            let head = head_of(record);
+            let length = answer_length(head.kind, head.n) as usize;
             let after = carry_out(card, state, kind, record, end, response);
             Reply {
                 outcome: Outcome::Accepted,

@@ -26,8 +26,9 @@ fn shown(card: &[u8], codes: &[u8; 7], active: Active, address: u8) -> u8
     requires { ⌜ (length (now card) ≡ cardSize) × (address < 128) ⌝ }
     ensures { λ r. ⌜ r ≡ cond (columnAllows (now (codes .entry)) address (activeOf active)) (at (now (card .entry)) (2048 + address)) 0 ⌝ }
 {
+    let byte = card[CONFIGURATION + address as usize];
     if configuration_allows(codes, address, active) {
-        return card[CONFIGURATION + address as usize];
+        return byte;
     }
     0
 }
@@ -41,7 +42,8 @@ pub fn read_configuration(
     response: &mut [u8],
 )
     requires { ⌜ (length (now card) ≡ cardSize) × (address + count ≤ 128) × (count ≤ length (now response)) ⌝ }
-    ensures { λ _. ⌜ now (response .exit) ≡ apply (now (card .entry)) (volatileOf state) (readConfiguration address count) .report .answer ++ drop count (now (response .entry)) ⌝ }
+    ensures { λ _. ⌜ now (response .exit)
+        ≡ apply (now (card .entry)) (volatileOf state) (readConfiguration address count) .report .answer ++ drop count (now (response .entry)) ⌝ }
 {
     let codes = column(0, card[FUSES]);
     let active = state.active;

@@ -30,7 +30,8 @@ pub fn store_allowed(
     active: Active,
 )
     requires { ⌜ (length (now page) ≡ 16) × (low < 16) × (first < 128) ⌝ }
-    ensures { λ _. ⌜ now (page .exit) ≡ stores (allowedOf (now (codes .entry)) first (activeOf active)) (λ k. (low + k) % 16) (now (bytes .entry)) 0 (now (page .entry)) ⌝ }
+    ensures { λ _. ⌜ now (page .exit)
+        ≡ stores (allowedOf (now (codes .entry)) first (activeOf active)) (λ k. (low + k) % 16) (now (bytes .entry)) 0 (now (page .entry)) ⌝ }
 {
     let mut at = low;
     let mut i = 0;

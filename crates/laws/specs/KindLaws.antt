@@ -1,13 +1,13 @@
--- Laws of the table of kinds: what holds of its twelve rows holds of every kind, and its columns as chains of comparisons, which is
--- how code that matches on a kind is read.
-use Prim.Native.Nat.{ℕ, _+_, _-_, _≤_, _<_}
+-- Laws of the table of kinds: what holds of its twelve rows holds of every kind, and the lengths of answers as a chain of comparisons,
+-- which is how code that matches on a kind is read.
+use Prim.Native.Nat.{ℕ, _-_, _≤_, _<_}
 use mathlib.Core.Bool.{Bool, true, false, cond, not, _&&_, true≢false}
 use mathlib.Core.Path.{_≡_, refl, sym, ap, subst, _∙_}
 use native.Mathlib.Omega.{arith}
 use borrow.Author.Tests.{leb-true, leb-false, eqb-true, eqb-false, not-true, ne-eqb}
 use lib.Dec.{leb, eqb}
 use lib.ListN.{length, List·getD-eq-default}
-use Rattle.model.specs.Record.{Kind, kinds, known, rowOf, fixedFields, inRange, dataLength, lengthFits}
+use Rattle.model.specs.Record.{Kind, kinds, known, rowOf, lengthFits}
 use Rattle.laws.specs.BoolLaws.{and-left, and-right}
 use Rattle.laws.specs.Tables.{each}
 
@@ -37,7 +37,7 @@ each-row Q q₁ q₂ q₃ q₄ q₅ q₆ q₇ q₈ q₉ q₁₀ q₁₁ q₁₂ 
     go true e = each-kind (λ k. Q (rowOf k)) q₁ q₂ q₃ q₄ q₅ q₆ q₇ q₈ q₉ q₁₀ q₁₁ q₁₂ kind e
     go false e = subst Q (sym (unknown-row kind e)) q₁
 
--- ---- the columns as chains of comparisons
+-- ---- the lengths of answers as a chain of comparisons
 
 -- two functions of a kind that agree at the twelve kinds and at every unknown one are equal
 agree : {A : Type 0} (f g : ℕ → A) → ((kind : ℕ) → known kind ≡ true → f kind ≡ g kind) → ((kind : ℕ) → known kind ≡ false → f kind ≡ g kind)
@@ -51,49 +51,6 @@ agree f g k u kind = go (known kind) refl
 -- an unknown kind is none of the twelve
 unknown : (kind j : ℕ) → known kind ≡ false → known j ≡ true → eqb kind j ≡ false
 unknown kind j u k = ne-eqb kind j (λ e. true≢false (sym k ∙ subst (λ (n : ℕ). known n ≡ false) e u))
-
-pub fixed-chain : (kind : ℕ) → fixedFields kind
-    ≡ cond (eqb kind 3) 1
-    (cond (eqb kind 4) 2 (cond (eqb kind 5) 2 (cond (eqb kind 6) 2 (cond (eqb kind 7) 2 (cond (eqb kind 10) 1 (cond (eqb kind 12) 1 0))))))
-unfolding kinds fixedFields
-fixed-chain =
-    agree _ _ (each-kind (λ k. fixedFields k ≡ _) refl refl refl refl refl refl refl refl refl refl refl refl)
-    (λ k u. ap (λ (r : Kind). r .fixed) (unknown-row k u)
-    ∙ rw (
-      unknown k 3 u refl,
-      unknown k 4 u refl,
-      unknown k 5 u refl,
-      unknown k 6 u refl,
-      unknown k 7 u refl,
-      unknown k 10 u refl,
-      unknown k 12 u refl,
-    ))
-
-pub range-chain : (a n kind : ℕ) → inRange kind a n
-    ≡ cond (eqb kind 3) (leb a 7)
-    (cond (eqb kind 5) (leb 1 n && leb n 16)
-    (cond (eqb kind 6) (leb a 127 && (leb 1 n && leb (a + n) 128))
-    (cond (eqb kind 7) (leb a 127 && (leb 1 n && leb n 16)) (cond (eqb kind 10) (leb a 15) (cond (eqb kind 12) (leb a 1) true)))))
-unfolding kinds inRange
-range-chain a n =
-    agree _ _ (each-kind (λ k. inRange k a n ≡ _) refl refl refl refl refl refl refl refl refl refl refl refl)
-    (λ k u. ap (λ (r : Kind). r .range a n) (unknown-row k u)
-    ∙ rw (
-      unknown k 3 u refl,
-      unknown k 5 u refl,
-      unknown k 6 u refl,
-      unknown k 7 u refl,
-      unknown k 10 u refl,
-      unknown k 12 u refl,
-    ))
-
-pub data-chain : (n kind : ℕ) → dataLength kind n
-    ≡ cond (eqb kind 5) n (cond (eqb kind 7) n (cond (eqb kind 10) 3 (cond (eqb kind 12) 8 0)))
-unfolding kinds dataLength
-data-chain n =
-    agree _ _ (each-kind (λ k. dataLength k n ≡ _) refl refl refl refl refl refl refl refl refl refl refl refl)
-    (λ k u. ap (λ (r : Kind). r .follow n) (unknown-row k u)
-    ∙ rw (unknown k 5 u refl, unknown k 7 u refl, unknown k 10 u refl, unknown k 12 u refl))
 
 pub fits-chain : (n kind : ℕ) → lengthFits kind n
     ≡ cond (eqb kind 2) (eqb n 4)

@@ -6,7 +6,7 @@ ghost use lib.ListN.{length};
 ghost use Rattle.model.specs.Log as model;
 ghost use Rattle.model.specs.Record.{lengthFits};
 ghost use Rattle.log.specs.Scan.{Scanned};
-use record::decoder::both;
+use record::kind::both;
 use record::number::get2;
 
 // Whether a response to a kind can be this long.

@@ -2,9 +2,11 @@
 ghost use mathlib.Core.Path.{_≡_};
 ghost use lib.ListN.{length};
 ghost use Rattle.model.specs.Reader.{recordsEnd, partAt, nextOf};
-ghost use Rattle.record.specs.DecodedRecord.{decodedOf};
+ghost use Rattle.record.specs.DecodedRecord.{decodedOf, measuredOf, measureOf};
 use record::decoder::Decoded;
+use record::decoder::Measured;
 use record::decoder::decode;
+use record::decoder::measure;
 use record::refusal::Refusal;
 use sizes::TRAILER;
 
@@ -29,6 +31,17 @@ pub fn next_at(session: &[u8], at: usize) -> Decoded
     decode(&session[at..end])
 }
 
+// The lengths of that record.
+pub fn measure_from(session: &[u8], at: usize) -> Measured
+    ensures { λ r. ⌜ measuredOf r ≡ measureOf (nextOf (now (session .entry)) at) ⌝ }
+{
+    let end = records_end(session);
+    if end <= at {
+        return Measured::Refused(Refusal::CutShort);
+    }
+    measure(&session[at..end])
+}
+
 // A place in a session's bytes, from which records are read.
 pub struct Reader<'a> {
     pub session: &'a [u8],
@@ -48,11 +61,18 @@ impl<'a> Reader<'a> {
     {
         next_at(self.session, self.at)
     }
+
+    // Its lengths.
+    pub fn measure(self) -> Measured
+        ensures { λ r. ⌜ measuredOf r ≡ measureOf (nextOf (now (self .entry .session)) (self .entry .at)) ⌝ }
+    {
+        measure_from(self.session, self.at)
+    }
 }
 
-// The record at a place, by a reader there.
-pub fn record_at(session: &[u8], at: usize) -> Decoded
-    ensures { λ r. ⌜ decodedOf (partAt (now (session .entry)) at) r ≡ nextOf (now (session .entry)) at ⌝ }
+// The lengths of the record at a place, by a reader there.
+pub fn measure_at(session: &[u8], at: usize) -> Measured
+    ensures { λ r. ⌜ measuredOf r ≡ measureOf (nextOf (now (session .entry)) at) ⌝ }
 {
-    Reader::new(session, at).next()
+    Reader::new(session, at).measure()
 }

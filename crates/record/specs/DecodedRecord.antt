@@ -4,12 +4,18 @@ use mathlib.Core.Bool.{cond}
 use mathlib.Core.List.{List}
 use lib.Dec.{eqb}
 use lib.ListN.{take, drop}
+use Rattle.model.specs.Lists.{at}
+use Rattle.model.specs.At88sc1608.{at88sc1608}
 use Rattle.model.specs.Call as call
 use Rattle.model.specs.Command as command
+use Rattle.laws.specs.Effects.{answerLength}
 use Rattle.record.specs.declared.decoder.Record.{Record}
 use Rattle.record.specs.declared.decoder.Record.the-variants as kind
 use Rattle.record.specs.declared.decoder.Decoded.{Decoded}
 use Rattle.record.specs.declared.decoder.Decoded.the-variants as decoded
+use Rattle.record.specs.declared.decoder.Measured.{Measured}
+use Rattle.record.specs.declared.decoder.Measured.the-variants as measured
+use Rattle.record.specs.declared.decoder.Head.{Head}
 use Rattle.record.specs.RefusalNumber.{refusalNumber}
 
 -- the bytes of a part from a place up to the record's end
@@ -49,3 +55,16 @@ recordOf k a n =
     (cond (eqb k 9) kind.WriteFuses
     (cond (eqb k 10) (kind.VerifyPassword a)
     (cond (eqb k 11) kind.BeginAuthentication (kind.VerifyAuthentication (eqb a 1))))))))))))
+
+-- the first three bytes of a part, 0 past its end
+abbrev pub headOf : List ℕ → Head
+headOf part = record { kind = at part 0; a = at part 1; n = at part 2 }
+
+-- the lengths alone of what a decoder finds: the answer's in place of the command, and the record's
+abbrev pub measureOf : call.Decoded command.Command → call.Decoded ℕ
+measureOf (call.refused why) = call.refused why
+measureOf (call.whole k n) = call.whole (answerLength at88sc1608 k) n
+
+abbrev pub measuredOf : Measured → call.Decoded ℕ
+measuredOf (measured.Refused why) = call.refused (refusalNumber why)
+measuredOf (measured.Whole m n) = call.whole m n

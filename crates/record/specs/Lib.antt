@@ -1,4 +1,4 @@
 pub mod RefusalNumber
 pub mod DecodedRecord
 pub mod DataLaws
-pub mod RecordAlone
+pub mod HeadLaws

@@ -1,10 +1,13 @@
 // A record at the front of some bytes: its kind, its fixed fields, its data behind them.
 ghost use mathlib.Core.Path.{_≡_};
-ghost use mathlib.Core.Bool.{cond, _&&_};
-ghost use lib.Dec.{eqb};
 ghost use lib.ListN.{getD};
 ghost use Rattle.model.specs.Record as model;
-ghost use Rattle.record.specs.DecodedRecord.{decodedOf, recordOf};
+ghost use Rattle.record.specs.DecodedRecord.{decodedOf, recordOf, headOf, measuredOf, measureOf};
+use crate::kind::answer_length;
+use crate::kind::data_length;
+use crate::kind::fixed_fields;
+use crate::kind::in_range;
+use crate::kind::read_count;
 use crate::refusal::Refusal;
 use access::volatile::Zone;
 
@@ -33,71 +36,21 @@ pub enum Decoded {
     Whole(Record, usize),
 }
 
-pub fn both(a: bool, b: bool) -> bool
-    ensures { λ r. ⌜ r ≡ (a && b) ⌝ }
-{
-    if a {
-        return b;
-    }
-    false
+// A refusal, or the length of a record's answer and its own.
+pub enum Measured {
+    Refused(Refusal),
+    Whole(u16, usize),
 }
 
-// How many fixed fields a kind has.
-fn fixed_fields(kind: u8) -> usize
-    ensures { λ r. ⌜ r ≡ model.fixedFields kind ⌝ }
-{
-    match kind {
-        3 => 1,
-        4 => 2,
-        5 => 2,
-        6 => 2,
-        7 => 2,
-        10 => 1,
-        12 => 1,
-        _ => 0,
-    }
-}
-
-// Whether the fixed fields are in range.
-fn in_range(kind: u8, a: u8, n: u8) -> bool
-    ensures { λ r. ⌜ r ≡ model.inRange kind a n ⌝ }
-{
-    match kind {
-        3 => a <= 7,
-        5 => both(1 <= n, n <= 16),
-        6 => both(a <= 127, both(1 <= n, a as usize + n as usize <= 128)),
-        7 => both(a <= 127, both(1 <= n, n <= 16)),
-        10 => a <= 15,
-        12 => a <= 1,
-        _ => true,
-    }
-}
-
-// How many data bytes follow.
-fn data_length(kind: u8, n: u8) -> usize
-    ensures { λ r. ⌜ r ≡ model.dataLength kind n ⌝ }
-{
-    match kind {
-        5 => n as usize,
-        7 => n as usize,
-        10 => 3,
-        12 => 8,
-        _ => 0,
-    }
-}
-
-// How many bytes a zone read asks for: 0 stands for 256.
-fn read_count(n: u8) -> u16
-    ensures { λ r. ⌜ r ≡ cond (eqb n 0) 256 n ⌝ }
-{
-    if n == 0 {
-        return 256;
-    }
-    n as u16
+// The kind byte and the two behind it, which are the fixed fields where the kind has them.
+pub struct Head {
+    pub kind: u8,
+    pub a: u8,
+    pub n: u8,
 }
 
 // The record of a known kind with its fixed fields.
-fn made(kind: u8, a: u8, n: u8) -> Record
+pub fn made(kind: u8, a: u8, n: u8) -> Record
     ensures { λ r. ⌜ r ≡ recordOf kind a n ⌝ }
 {
     match kind {
@@ -126,32 +79,56 @@ fn byte_at(part: &[u8], at: usize) -> u8
     0
 }
 
-// The record at the front of a part that begins at its kind byte.
-pub fn decode(part: &[u8]) -> Decoded
-    ensures { λ r. ⌜ decodedOf (now (part .entry)) r ≡ model.decode (now (part .entry)) ⌝ }
+// The first three bytes of a part.
+pub fn head_of(part: &[u8]) -> Head
+    ensures { λ r. ⌜ r ≡ headOf (now (part .entry)) ⌝ }
+{
+    Head {
+        kind: byte_at(part, 0),
+        a: byte_at(part, 1),
+        n: byte_at(part, 2),
+    }
+}
+
+// The lengths of the record at the front of a part that begins at its kind byte.
+pub fn measure(part: &[u8]) -> Measured
+    ensures { λ r. ⌜ measuredOf r ≡ measureOf (model.decode (now (part .entry))) ⌝ }
 {
     if part.len() == 0 {
-        return Decoded::Refused(Refusal::CutShort);
+        return Measured::Refused(Refusal::CutShort);
     }
     let kind = byte_at(part, 0);
     if kind == 0 {
-        return Decoded::Refused(Refusal::UnknownKind);
+        return Measured::Refused(Refusal::UnknownKind);
     }
     if 12 < kind {
-        return Decoded::Refused(Refusal::UnknownKind);
+        return Measured::Refused(Refusal::UnknownKind);
     }
     let start = 1 + fixed_fields(kind);
     if part.len() < start {
-        return Decoded::Refused(Refusal::CutShort);
+        return Measured::Refused(Refusal::CutShort);
     }
     let a = byte_at(part, 1);
     let n = byte_at(part, 2);
     if !in_range(kind, a, n) {
-        return Decoded::Refused(Refusal::FieldOutOfRange);
+        return Measured::Refused(Refusal::FieldOutOfRange);
     }
     let end = start + data_length(kind, n);
     if part.len() < end {
-        return Decoded::Refused(Refusal::CutShort);
+        return Measured::Refused(Refusal::CutShort);
     }
-    Decoded::Whole(made(kind, a, n), end)
+    Measured::Whole(answer_length(kind, n), end)
+}
+
+// The record at the front of such a part.
+pub fn decode(part: &[u8]) -> Decoded
+    ensures { λ r. ⌜ decodedOf (now (part .entry)) r ≡ model.decode (now (part .entry)) ⌝ }
+{
+    match measure(part) {
+        Measured::Refused(why) => Decoded::Refused(why),
+        Measured::Whole(_, end) => {
+            let head = head_of(part);
+            Decoded::Whole(made(head.kind, head.a, head.n), end)
+        }
+    }
 }

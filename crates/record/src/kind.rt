@@ -1,48 +1,126 @@
-// What a record tells without its data: its kind, and how long its answer is.
+// What a kind tells, with a record's count: its fixed fields and their range, its data, and how long its answer is.
 ghost use mathlib.Core.Path.{_≡_};
+ghost use mathlib.Core.Bool.{cond, _&&_};
 ghost use mathlib.Core.List.{[]};
+ghost use Prim.Native.Nat.{_+_, _*_, _/_, _%_, _^_, _≤_};
+ghost use lib.Dec.{eqb, leb};
 ghost use Rattle.model.specs.At88sc1608.{at88sc1608};
-ghost use Rattle.model.specs.Session.{kindOf};
+ghost use Rattle.model.specs.Record as model;
 ghost use Rattle.laws.specs.Effects.{answerLength};
-ghost use Rattle.record.specs.DecodedRecord.{commandOf};
-use crate::decoder::Record;
+use access::rights::either;
 
-// The number of a record's kind.
-pub fn kind_number(record: Record) -> u8
-    ensures { λ r. ⌜ r ≡ kindOf (commandOf [] 0 «record») ⌝ }
+// A hexadecimal digit for each kind: a column of this table, read downwards, is a constant. Where n stands the count says it, and
+// the digit is not used.
+//
+//                               fixed     bits of the    data     answer
+//   kind                        fields    first field    bytes    bytes
+//   12 verify authentication      1            1           8        0
+//   11 begin authentication       0            8           0        0
+//   10 verify password            1            4           3        0
+//    9 write fuses                0            8           0        0
+//    8 read fuses                 0            8           0        1
+//    7 write configuration        2            7           0 n      0
+//    6 read configuration         2            7           0        0 n
+//    5 write zone                 2            8           0 n      0
+//    4 read zone                  2            8           0        0 n
+//    3 select                     1            3           0        0
+//    2 reset                      0            8           0        4
+//    1 power cycle                0            8           0        0
+//    0 no kind                    0            8           0        0
+const FIXED_FIELDS: u64 = 0x1_0100_2222_1000;
+
+const FIRST_FIELD_BITS: u64 = 0x1_8488_7788_3888;
+
+const DATA_BYTES: u64 = 0x8_0300_0000_0000;
+
+const ANSWER_BYTES: u64 = 0x0_0001_0000_0400;
+
+pub fn both(a: bool, b: bool) -> bool
+    ensures { λ r. ⌜ r ≡ (a && b) ⌝ }
 {
-    match record {
-        Record::PowerCycle => 1,
-        Record::Reset => 2,
-        Record::Select(_) => 3,
-        Record::ReadZone(_, _) => 4,
-        Record::WriteZone(_) => 5,
-        Record::ReadConfiguration(_, _) => 6,
-        Record::WriteConfiguration(_) => 7,
-        Record::ReadFuses => 8,
-        Record::WriteFuses => 9,
-        Record::VerifyPassword(_) => 10,
-        Record::BeginAuthentication => 11,
-        Record::VerifyAuthentication(_) => 12,
+    if a {
+        return b;
     }
+    false
 }
 
-// How long the answer to a record is.
-pub fn answer_length(record: Record) -> u16
-    ensures { λ r. ⌜ r ≡ answerLength at88sc1608 (commandOf [] 0 «record») ⌝ }
+fn chosen(first: bool, a: usize, b: usize) -> usize
+    ensures { λ r. ⌜ r ≡ cond first a b ⌝ }
 {
-    match record {
-        Record::PowerCycle => 0,
-        Record::Reset => 4,
-        Record::Select(_) => 0,
-        Record::ReadZone(_, count) => count,
-        Record::WriteZone(_) => 0,
-        Record::ReadConfiguration(_, count) => count as u16,
-        Record::WriteConfiguration(_) => 0,
-        Record::ReadFuses => 1,
-        Record::WriteFuses => 0,
-        Record::VerifyPassword(_) => 0,
-        Record::BeginAuthentication => 0,
-        Record::VerifyAuthentication(_) => 0,
+    if first {
+        return a;
     }
+    b
+}
+
+// The digit of a kind in a column.
+fn digit(column: u64, kind: u8) -> usize
+    requires { ⌜ kind ≤ 12 ⌝ }
+    ensures { λ r. ⌜ r ≡ column / 2 ^ (kind * 4) % 16 ⌝ }
+{
+    let from = column >> (kind * 4);
+    (from % 16) as usize
+}
+
+// helper: how many fixed fields a kind has.
+pub fn fixed_fields(kind: u8) -> usize
+    requires { ⌜ kind ≤ 12 ⌝ }
+    ensures { λ r. ⌜ r ≡ model.fixedFields kind ⌝ }
+{
+    digit(FIXED_FIELDS, kind)
+}
+
+// Whether a count is in range: 1 to 16 bytes to write, and none to read past the configuration's 128.
+fn count_in_range(kind: u8, a: u8, n: u8) -> bool
+    ensures { λ r. ⌜ r ≡ (leb 1 n && leb (cond (eqb kind 6) a 112 + n) 128) ⌝ }
+{
+    let before = chosen(kind == 6, a as usize, 112);
+    both(1 <= n, before + n as usize <= 128)
+}
+
+// helper: whether the fixed fields are in range.
+pub fn in_range(kind: u8, a: u8, n: u8) -> bool
+    requires { ⌜ kind ≤ 12 ⌝ }
+    ensures { λ r. ⌜ r ≡ model.inRange kind a n ⌝ }
+{
+    let above = a as usize >> digit(FIRST_FIELD_BITS, kind);
+    let uncounted = either(kind < 5, 7 < kind);
+    both(above == 0, either(uncounted, count_in_range(kind, a, n)))
+}
+
+// helper: how many data bytes follow.
+pub fn data_length(kind: u8, n: u8) -> usize
+    requires { ⌜ kind ≤ 12 ⌝ }
+    ensures { λ r. ⌜ r ≡ model.dataLength kind n ⌝ }
+{
+    let counted = either(kind == 5, kind == 7);
+    chosen(counted, n as usize, digit(DATA_BYTES, kind))
+}
+
+// helper: how long a record is.
+pub fn record_length(kind: u8, n: u8) -> usize
+    requires { ⌜ kind ≤ 12 ⌝ }
+    ensures { λ r. ⌜ r ≡ 1 + model.fixedFields kind + model.dataLength kind n ⌝ }
+{
+    1 + fixed_fields(kind) + data_length(kind, n)
+}
+
+// How many bytes a zone read asks for: 0 stands for 256.
+pub fn read_count(n: u8) -> u16
+    ensures { λ r. ⌜ r ≡ cond (eqb n 0) 256 n ⌝ }
+{
+    if n == 0 {
+        return 256;
+    }
+    n as u16
+}
+
+// helper: how long the answer is, on which the first field and the data have no bearing.
+pub fn answer_length(kind: u8, n: u8) -> u16
+    requires { ⌜ kind ≤ 12 ⌝ }
+    ensures { λ r. ⌜ r ≡ answerLength at88sc1608 (model.made kind 0 n []) ⌝ }
+{
+    let uncounted = digit(ANSWER_BYTES, kind);
+    let zone = chosen(kind == 4, read_count(n) as usize, uncounted);
+    chosen(kind == 6, n as usize, zone) as u16
 }

@@ -7,23 +7,26 @@ use borrow.Author.Tests.{ltb-true}
 use lib.ListN.{length, take, drop, length-append, length-take, length-drop, take-append-drop, drop-of-length-le}
 use lib.Seq.{sets, sets-eq, length-sets, drop-append-le, drop-drop, take-all, length-take-le}
 use Rattle.model.specs.Sizes.{cardSize, leastSession, leastLog}
-use Rattle.model.specs.Lists.{at}
 use Rattle.laws.specs.BoolLaws.{and-left}
 use Rattle.model.specs.Numbers.{bytesOf}
 use Rattle.laws.specs.NumberLaws.{sets-append}
 use Rattle.model.specs.At88sc1608.{at88sc1608}
-use Rattle.model.specs.Call.{Powered, powered, refused, whole}
-use Rattle.laws.specs.CallLaws.{refused-whole}
+use Rattle.model.specs.Call.{Powered, powered, whole}
 use Rattle.model.specs.Command.{Command}
 use Rattle.laws.specs.Effects.{answerLength, answer-length}
 use Rattle.model.specs.Log.{entryBytes, entriesBytes, logTrailer}
-use Rattle.model.specs.Reader.{recordsEnd, partAt, nextOf}
+use Rattle.model.specs.Reader.{recordsEnd, partAt}
+use Rattle.model.specs.Record.{fixedFields, dataLength, made}
 use Rattle.laws.specs.ReaderLaws.{next-within}
 use Rattle.laws.specs.RecordLaws.{decode-fields, decode-within}
 use Rattle.laws.specs.Sane.{Good, good-after}
 use Rattle.model.specs.Session.{cardOf, startOf, countOf, readFrom, all, kindOf, logged, after, entriesOf, endOf, initial}
 use Rattle.model.specs.Single.{apply}
 use Rattle.model.specs.Volatile.{Volatile, powerUp}
+use Rattle.record.specs.DecodedRecord.{commandOf, recordOf, headOf}
+use Rattle.record.specs.HeadLaws.{head-known, head-kind, head-answer, head-size, head-command}
+use Rattle.record.specs.declared.decoder.Head.{Head}
+use Rattle.record.specs.declared.decoder.Record.{Record}
 use Rattle.carry.specs.Carried.{Ready, Carried}
 use Rattle.validate.specs.Check.{entriesTotal}
 use Rattle.properties.specs.AcceptedSessionLaws.{framed-well, card-good}
@@ -43,11 +46,24 @@ lent l a k vs h h′ =
     ∙ ap (drop (length vs)) (take-append-drop k (drop a l)) ∙ drop-drop (length vs) a l))
     ∙ sym (append-assoc (take a l) vs _) ∙ sym (sets-eq vs l a h)
 
-module _ (part : List ℕ) (m : Powered Volatile) (k : Command) (n : ℕ) (log : List ℕ) (place : ℕ) (r : EntryReady part m k n log place) where
-  module _ (kind a : ℕ) (log₁ : List ℕ) (kinds : kind ≡ kindOf k) (answers : a ≡ answerLength at88sc1608 k)
-      (header : log₁ ≡ sets log place (kind ∷ bytesOf 2 a)) where
+module _ (part : List ℕ) (m : Powered Volatile) (log : List ℕ) (place : ℕ) (r : EntryReady part m log place) (h : Head) (head : h ≡ headOf part) where
+  abbrev k : Command
+  k = r .command
+
+  pub entry-known : h .kind ≤ 12
+  entry-known = head-known part k (r .size) (r .decodes) h head
+
+  module _ (a : ℕ) (log₁ : List ℕ) (kind : Record) (end : ℕ) (answers : a ≡ answerLength at88sc1608 (made (h .kind) 0 (h .n) []))
+      (header : log₁ ≡ sets log place (h .kind ∷ bytesOf 2 a)) (makes : kind ≡ recordOf (h .kind) (h .a) (h .n))
+      (ends : end ≡ 1 + fixedFields (h .kind) + dataLength (h .kind) (h .n)) where
+    size-is : end ≡ r .size
+    size-is = ends ∙ head-size part k (r .size) (r .decodes) h head
+
+    command-is : commandOf part end kind ≡ k
+    command-is = (λ t. commandOf part (size-is t) (makes t)) ∙ head-command part k (r .size) (r .decodes) h head
+
     long : length log₁ ≡ length log
-    long = ap length header ∙ length-sets log place (kind ∷ bytesOf 2 a)
+    long = ap length header ∙ length-sets log place (h .kind ∷ bytesOf 2 a)
 
     room : place + 3 + answerLength at88sc1608 k ≤ length log₁
     room = let l = long in let q = r .room in omega arith
@@ -56,22 +72,27 @@ module _ (part : List ℕ) (m : Powered Volatile) (k : Command) (n : ℕ) (log :
       space-length : length space ≡ length log₁ - (place + 3)
       space-length = let e = length-take size (drop (place + 3) log₁) in let d = length-drop (place + 3) log₁ in ap length lends ∙ (omega arith)
 
-      pub entry-ready : Ready (m .card) (m .state) k part n space
+      pub entry-ready : Ready (m .card) (m .state) (commandOf part end kind) part end space
       entry-ready =
           let q = room in
           let e = space-length in
-          record {
+          rw (command-is, size-is)
+          (record {
             long = r .good .long;
             zone = ltb-true (m .state .zone) 8 (and-left _ _ (r .good .range));
-            fields = r .fields;
-            within = r .within;
+            fields = decode-fields part k (r .size) (r .decodes);
+            within = decode-within part k (r .size) (r .decodes) .1;
             room = omega arith;
-          }
+          })
 
-      pub entry-written : (c′ : List ℕ) (s′ : Volatile) (space′ : List ℕ) → Carried (m .card) (m .state) k space c′ s′ space′
-          → EntryWritten m k log place c′ s′ (take (place + 3) log₁ ++ (space′ ++ drop size (drop (place + 3) log₁)))
-      entry-written c′ s′ space′ w = record { card = w .card; state = w .state; bytes = bytes }
+      pub entry-written : (c′ : List ℕ) (s′ : Volatile) (space′ : List ℕ) → Carried (m .card) (m .state) (commandOf part end kind) space c′ s′ space′
+          → EntryWritten part m log place c′ s′ (take (place + 3) log₁ ++ (space′ ++ drop size (drop (place + 3) log₁)))
+      entry-written c′ s′ space′ carried =
+          record { command = k; size = r .size; decodes = r .decodes; card = w .card; state = w .state; bytes = bytes }
         where
+          w : Carried (m .card) (m .state) k space c′ s′ space′
+          w = rw command-is at carried
+
           answer : List ℕ
           answer = apply (m .card) (m .state) k .report .answer
 
@@ -83,11 +104,14 @@ module _ (part : List ℕ) (m : Powered Volatile) (k : Command) (n : ℕ) (log :
               let q = room in
               let e = space-length in
               let l = answer-is in
-              ap (λ (x : List ℕ). take (place + 3) log₁ ++ (x ++ drop size (drop (place + 3) log₁))) (w .answer ∙ (λ t. answer ++ drop (sym answer-is t) (lends t)))
+              let kinds = head-kind part k (r .size) (r .decodes) h head in
+              let lengths = answers ∙ head-answer part k (r .size) (r .decodes) h head ∙ sym answer-is in
+              ap (λ (x : List ℕ). take (place + 3) log₁ ++ (x ++ drop size (drop (place + 3) log₁)))
+              (w .answer ∙ (λ t. answer ++ drop (sym answer-is t) (lends t)))
               ∙ lent log₁ (place + 3) size answer (omega arith) (rw (← lends) (omega arith))
               ∙ ap (λ (x : List ℕ). sets x (place + 3) answer) header
-              ∙ sets-append log place (kind ∷ bytesOf 2 a) answer
-              ∙ (λ t. sets log place (kinds t ∷ (bytesOf 2 ((answers ∙ sym answer-is) t) ++ answer)))
+              ∙ sets-append log place (h .kind ∷ bytesOf 2 a) answer
+              ∙ (λ t. sets log place (kinds t ∷ (bytesOf 2 (lengths t) ++ answer)))
 
 -- ---- the records
 
@@ -104,7 +128,8 @@ pub record Going (s : List ℕ) (start count : ℕ) (c₀ log₀ : List ℕ) (at
   pub ends : endOf rest (powered c v) .card ≡ endOf commands (powered c₀ powerUp) .card
   pub bytes : sets log place (entriesBytes (entriesOf rest (powered c v))) ≡ sets log₀ 0 (entriesBytes (entriesOf commands (powered c₀ powerUp)))
 
-pub going-start : (s : List ℕ) (start count : ℕ) (c log : List ℕ) (v : Volatile) → v ≡ powerUp → RecordsReady s start count c log → Going s start count c log start 0 count c v log
+pub going-start : (s : List ℕ) (start count : ℕ) (c log : List ℕ) (v : Volatile) → v ≡ powerUp → RecordsReady s start count c log
+    → Going s start count c log start 0 count c v log
 going-start s start count c log v e r =
     rw e
     (record {
@@ -129,59 +154,79 @@ module _ (s : List ℕ) (start count : ℕ) (c₀ log₀ : List ℕ) (at place l
     next : First (left - 1) s at (g .rest) (recordsEnd (length s))
     next = read-first (left - 1) s at (g .rest) (recordsEnd (length s)) (ap (λ (n : ℕ). readFrom n s at) (sym one-fewer) ∙ g .left-reads)
 
-    -- the record is whole
-    pub going-never : (n : ℕ) → refused n ≡ nextOf s at → ⊥
-    going-never n e = refused-whole n (next .command) (next .size) (e ∙ next .next)
+    next-room : place + (3 + answerLength at88sc1608 (next .command)) ≤ length log
+    next-room = let q = ap entriesTotal (next .list) in let r = g .room in omega arith
 
-    module _ (k : Command) (n : ℕ) (e : whole k n ≡ nextOf s at) where
-      command-is : next .command ≡ k
-      command-is = let q : whole (next .command) (next .size) ≡ whole k n = sym (next .next) ∙ sym e in cc
+    pub going-ready : EntryReady (partAt s at) (powered c v) log place
+    going-ready =
+        record {
+          command = next .command;
+          size = next .size;
+          decodes = next .next;
+          good = g .good;
+          room = next-room;
+        }
 
-      length-is : next .size ≡ n
-      length-is = let q : whole (next .command) (next .size) ≡ whole k n = sym (next .next) ∙ sym e in cc
+    module _ (h : Head) (head : h ≡ headOf (partAt s at)) where
+      pub going-known : h .kind ≤ 12
+      going-known = head-known (partAt s at) (next .command) (next .size) (next .next) h head
 
-      list-is : g .rest ≡ k ∷ next .others
-      list-is = next .list ∙ ap (λ (x : Command). x ∷ next .others) command-is
+      -- the next record ends by the end of the records, and its entry within the log
+      module _ (e : ℕ) (ends : e ≡ 1 + fixedFields (h .kind) + dataLength (h .kind) (h .n)) where
+        next-size : e ≡ next .size
+        next-size = ends ∙ head-size (partAt s at) (next .command) (next .size) (next .next) h head
 
-      total-is : entriesTotal (g .rest) ≡ 3 + answerLength at88sc1608 k + entriesTotal (next .others)
-      total-is = ap entriesTotal list-is
+        pub going-forth : at + e ≤ recordsEnd (length s)
+        going-forth = let p = next-size in let w = next-within s at (next .command) (next .size) (next .next) in omega arith
 
-      pub going-ready : EntryReady (partAt s at) (powered c v) k n log place
-      going-ready =
-          record {
-            good = g .good;
-            fields = decode-fields (partAt s at) k n (sym e);
-            within = decode-within (partAt s at) k n (sym e) .1;
-            room = let q = total-is in let r = g .room in omega arith;
-          }
+      module _ (a : ℕ) (answers : a ≡ answerLength at88sc1608 (made (h .kind) 0 (h .n) [])) where
+        next-answer : a ≡ answerLength at88sc1608 (next .command)
+        next-answer = answers ∙ head-answer (partAt s at) (next .command) (next .size) (next .next) h head
 
-      pub going-next : (a : ℕ) (c′ : List ℕ) (v′ : Volatile) (log′ : List ℕ) → a ≡ answerLength at88sc1608 k → EntryWritten (powered c v) k log place c′ v′ log′
-          → Going s start count c₀ log₀ (at + n) (place + (3 + a)) (left - 1) c′ v′ log′
-      going-next a c′ v′ log′ q w =
+        pub going-room : place + (3 + a) ≤ length log
+        going-room = let q = next-answer in let r = next-room in omega arith
+
+      pub going-next : (e a : ℕ) (c′ : List ℕ) (v′ : Volatile) (log′ : List ℕ) → e ≡ 1 + fixedFields (h .kind) + dataLength (h .kind) (h .n)
+          → a ≡ answerLength at88sc1608 (made (h .kind) 0 (h .n) []) → EntryWritten (partAt s at) (powered c v) log place c′ v′ log′
+          → Going s start count c₀ log₀ (at + e) (place + (3 + a)) (left - 1) c′ v′ log′
+      going-next e a c′ v′ log′ ends answers written =
           record {
             commands = g .commands;
             rest = next .others;
             reads = g .reads;
-            left-reads = ap (λ (x : ℕ). readFrom (left - 1) s (at + x)) (sym length-is) ∙ next .rest;
-            forth = next-within s at k n (sym e) .1;
-            good = subst (λ (m : Powered Volatile). Good (m .card) (m .state)) (sym same) (good-after c v k (decode-fields (partAt s at) k n (sym e)) (g .good));
+            left-reads = ap (λ (x : ℕ). readFrom (left - 1) s (at + x)) (next-size e ends) ∙ next .rest;
+            forth = going-forth e ends;
+            good =
+                subst (λ (m : Powered Volatile). Good (m .card) (m .state)) (sym same)
+                (good-after c v k (decode-fields (partAt s at) k (next .size) (next .next)) (g .good));
             long = log-long ∙ g .long;
-            room = let t = total-is in let r = g .room in let l = log-long in omega arith;
-            ends = ap (λ (m : Powered Volatile). endOf (next .others) m .card) same ∙ sym (ap (λ (ks : List Command). endOf ks (powered c v) .card) list-is) ∙ g .ends;
+            room = let t = ap entriesTotal (next .list) in let r = g .room in let l = log-long in let q = next-answer a answers in omega arith;
+            ends =
+                ap (λ (m : Powered Volatile). endOf (next .others) m .card) same
+                ∙ sym (ap (λ (ks : List Command). endOf ks (powered c v) .card) (next .list)) ∙ g .ends;
             bytes =
-                (λ t. sets (w .bytes t) (entry-length t) (entriesBytes (entriesOf (next .others) (same t))))
+                (λ t. sets (bytes-are t) (entry-length t) (entriesBytes (entriesOf (next .others) (same t))))
                 ∙ sets-append log place (entryBytes (logged (powered c v) k)) (entriesBytes (entriesOf (next .others) (after (powered c v) k)))
-                ∙ sym (ap (λ (ks : List Command). sets log place (entriesBytes (entriesOf ks (powered c v)))) list-is) ∙ g .bytes;
+                ∙ sym (ap (λ (ks : List Command). sets log place (entriesBytes (entriesOf ks (powered c v)))) (next .list)) ∙ g .bytes;
           }
         where
+          k : Command
+          k = next .command
+
+          command-is : written .command ≡ k
+          command-is = let q : whole (written .command) (written .size) ≡ whole k (next .size) = sym (written .decodes) ∙ next .next in cc
+
           same : powered c′ v′ ≡ after (powered c v) k
-          same = λ t. powered (w .card t) (w .state t)
+          same = (λ t. powered (written .card t) (written .state t)) ∙ ap (after (powered c v)) command-is
+
+          bytes-are : log′ ≡ sets log place (entryBytes (logged (powered c v) k))
+          bytes-are = written .bytes ∙ ap (λ (x : Command). sets log place (entryBytes (logged (powered c v) x))) command-is
 
           log-long : length log′ ≡ length log
-          log-long = ap length (w .bytes) ∙ length-sets log place (entryBytes (logged (powered c v) k))
+          log-long = ap length bytes-are ∙ length-sets log place (entryBytes (logged (powered c v) k))
 
           entry-length : place + (3 + a) ≡ place + length (entryBytes (logged (powered c v) k))
-          entry-length = let l = answer-length at88sc1608 c v k in omega arith
+          entry-length = let l = answer-length at88sc1608 c v k in let q = next-answer a answers in omega arith
 
   pub going-done : left ≤ 0 → RecordsRun s start count c₀ log₀ c log
   going-done h =
@@ -208,7 +253,8 @@ module _ (s : List ℕ) (entries : ℕ) (log : List ℕ) (r : LogReady s entries
   pub session-long : leastSession ≤ length s
   session-long = framed-well s (r .frames) .long
 
-  module _ (blank card : List ℕ) (start count : ℕ) (size : length blank ≡ cardSize) (copied : card ≡ sets blank 0 (take cardSize s)) (starts : start ≡ startOf s) (counts : count ≡ countOf s) where
+  module _ (blank card : List ℕ) (start count : ℕ) (size : length blank ≡ cardSize) (copied : card ≡ sets blank 0 (take cardSize s))
+      (starts : start ≡ startOf s) (counts : count ≡ countOf s) where
     card-is : card ≡ cardOf s
     card-is = copied ∙ sets-whole blank (take cardSize s) (length-take-le cardSize s (let l = session-long in omega arith) ∙ sym size)
 
@@ -231,7 +277,8 @@ module _ (s : List ℕ) (entries : ℕ) (log : List ℕ) (r : LogReady s entries
           reads = r .reads;
           bytes =
               e₃ ∙ (λ t. sets (second t) (third-place t) (logTrailer (entries-is t) (count-is t)))
-              ∙ sets-append log 0 (front ++ final) (logTrailer (length front) (length (entriesOf ks (initial s)))) ∙ ap (sets log 0) (append-assoc front final _);
+              ∙ sets-append log 0 (front ++ final) (logTrailer (length front) (length (entriesOf ks (initial s))))
+              ∙ ap (sets log 0) (append-assoc front final _);
         }
       where
         ks : List Command
@@ -244,7 +291,9 @@ module _ (s : List ℕ) (entries : ℕ) (log : List ℕ) (r : LogReady s entries
         final = endOf ks (initial s) .card
 
         ks-same : w .commands ≡ ks
-        ks-same = let p : all (w .commands) (recordsEnd (length s)) ≡ all ks (recordsEnd (length s)) = sym (w .reads) ∙ (λ t. readFrom (counts t) s (starts t)) ∙ r .reads in cc
+        ks-same =
+            let p : all (w .commands) (recordsEnd (length s)) ≡ all ks (recordsEnd (length s)) = sym (w .reads) ∙ (λ t. readFrom (counts t) s (starts t))
+            ∙ r .reads in cc
 
         first : log₁ ≡ sets log 0 front
         first = w .bytes ∙ (λ t. sets log 0 (entriesBytes (entriesOf (ks-same t) (powered (card-is t) powerUp))))

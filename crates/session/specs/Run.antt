@@ -6,12 +6,12 @@ use lib.ListN.{length}
 use lib.Seq.{sets}
 use Rattle.model.specs.Sizes.{leastLog}
 use Rattle.model.specs.At88sc1608.{at88sc1608}
-use Rattle.model.specs.Call.{Powered, powered}
+use Rattle.model.specs.Call.{Powered, powered, whole}
 use Rattle.model.specs.Command.{Command}
 use Rattle.laws.specs.Effects.{answerLength}
 use Rattle.model.specs.Log.{entryBytes, entriesBytes}
 use Rattle.model.specs.Reader.{recordsEnd}
-use Rattle.laws.specs.RecordLaws.{Fields}
+use Rattle.model.specs.Record.{decode}
 use Rattle.laws.specs.Sane.{Good}
 use Rattle.model.specs.Session as model
 use Rattle.model.specs.Volatile.{Volatile, powerUp}
@@ -25,18 +25,22 @@ ranOf r space = record { refusal = outcomeNumber (r .outcome); size = r .size; s
 
 -- ---- one record
 
--- a card and a state in range, a record with its fields in range, room for its entry
-pub record EntryReady (part : List ℕ) (m : Powered Volatile) (k : Command) (n : ℕ) (log : List ℕ) (place : ℕ) : Type 0 where
+-- a part with a whole record at its front, a card and a state in range, room for the record's entry
+pub record EntryReady (part : List ℕ) (m : Powered Volatile) (log : List ℕ) (place : ℕ) : Type 0 where
+  pub command : Command
+  pub size : ℕ
+  pub decodes : decode part ≡ whole command size
   pub good : Good (m .card) (m .state)
-  pub fields : Fields k
-  pub within : n ≤ length part
-  pub room : place + (3 + answerLength at88sc1608 k) ≤ length log
+  pub room : place + (3 + answerLength at88sc1608 command) ≤ length log
 
 -- the command is carried out, and its entry stands in its place
-pub record EntryWritten (m : Powered Volatile) (k : Command) (log : List ℕ) (place : ℕ) (c′ : List ℕ) (s′ : Volatile) (log′ : List ℕ) : Type 0 where
-  pub card : c′ ≡ model.after m k .card
-  pub state : s′ ≡ model.after m k .state
-  pub bytes : log′ ≡ sets log place (entryBytes (model.logged m k))
+pub record EntryWritten (part : List ℕ) (m : Powered Volatile) (log : List ℕ) (place : ℕ) (c′ : List ℕ) (s′ : Volatile) (log′ : List ℕ) : Type 0 where
+  pub command : Command
+  pub size : ℕ
+  pub decodes : decode part ≡ whole command size
+  pub card : c′ ≡ model.after m command .card
+  pub state : s′ ≡ model.after m command .state
+  pub bytes : log′ ≡ sets log place (entryBytes (model.logged m command))
 
 -- ---- all records
 

@@ -2,41 +2,44 @@
 ghost use mathlib.Core.Path.{_≡_};
 ghost use Rattle.model.specs.Call.{powered};
 ghost use Rattle.access.specs.State.{volatileOf};
-ghost use Rattle.record.specs.DecodedRecord.{commandOf};
+ghost use Rattle.record.specs.DecodedRecord.{headOf};
 ghost use Rattle.session.specs.Run.{EntryReady, EntryWritten, RecordsReady, RecordsRun, LogReady, LogWritten};
 use access::volatile::Volatile;
 use access::volatile::power_up;
 use carry::carry_out;
 use log::write::put_header;
 use log::write::put_trailer;
-use reader::record_at;
 use reader::records_end;
-use record::decoder::Decoded;
-use record::decoder::Record;
+use record::decoder::Head;
+use record::decoder::head_of;
+use record::decoder::made;
 use record::kind::answer_length;
-use record::kind::kind_number;
+use record::kind::record_length;
 use record::number::get2;
 use record::number::get4;
 use sizes::CARD;
 use sizes::TRAILER;
 use slices::copy;
 
-// helper: a record carried out, and its entry written.
+// helper: the record at the front of a part carried out, and its entry written. It was checked, so its head tells what it is.
 fn write_entry(
     part: &[u8],
-    kind: Record,
-    length: usize,
+    head: Head,
     card: &mut [u8],
     state: Volatile,
     log: &mut [u8],
     place: usize,
 ) -> Volatile
-    requires { ⌜ EntryReady (now part) (powered (now card) (volatileOf state)) (commandOf (now part) length kind) length (now log) place ⌝ }
-    ensures { λ r. ⌜ EntryWritten (powered (now (card .entry)) (volatileOf state)) (commandOf (now (part .entry)) length kind) (now (log .entry)) place (now (card .exit)) (volatileOf r) (now (log .exit)) ⌝ }
+    requires { ⌜ (head ≡ headOf (now part)) × EntryReady (now part) (powered (now card) (volatileOf state)) (now log) place ⌝ }
+    ensures { λ r. ⌜ EntryWritten (now (part .entry)) (powered (now (card .entry)) (volatileOf state)) (now (log .entry)) place
+        (now (card .exit)) (volatileOf r) (now (log .exit)) ⌝ }
 {
-    put_header(log, place, kind_number(kind), answer_length(kind) as usize);
+    let answer = answer_length(head.kind, head.n) as usize;
+    put_header(log, place, head.kind, answer);
+    let record = made(head.kind, head.a, head.n);
+    let end = record_length(head.kind, head.n);
     let from = place + 3;
-    carry_out(card, state, kind, part, length, &mut log[from..])
+    carry_out(card, state, record, part, end, &mut log[from..])
 }
 
 // helper: count records from start on, run from power-up.
@@ -50,15 +53,11 @@ fn run_records(session: &[u8], start: usize, count: usize, card: &mut [u8], log:
     let mut place = 0;
     let mut left = count;
     while 0 < left {
-        match record_at(session, at) {
-            Decoded::Refused(_) => return,
-            Decoded::Whole(kind, length) => {
-                state = write_entry(&session[at..end], kind, length, card, state, log, place);
-                at += length;
-                place += 3 + answer_length(kind) as usize;
-                left -= 1;
-            }
-        }
+        let head = head_of(&session[at..end]);
+        state = write_entry(&session[at..end], head, card, state, log, place);
+        at += record_length(head.kind, head.n);
+        place += 3 + answer_length(head.kind, head.n) as usize;
+        left -= 1;
     }
 }
 

@@ -8,10 +8,9 @@ ghost use Rattle.model.specs.Session as model;
 ghost use Rattle.record.specs.RefusalNumber.{outcomeNumber};
 ghost use Rattle.validate.specs.Check.{checkedOf, sizedOf, checkOf};
 use access::rights::is_fuse_byte;
-use reader::record_at;
+use reader::measure_at;
 use reader::records_end;
-use record::decoder::Decoded;
-use record::kind::answer_length;
+use record::decoder::Measured;
 use record::number::get2;
 use record::number::get4;
 use record::refusal::Outcome;
@@ -71,11 +70,11 @@ pub fn check_records(session: &[u8], start: usize, count: usize) -> Checked
     let mut entries = 0;
     let mut left = count;
     while 0 < left {
-        match record_at(session, at) {
-            Decoded::Refused(why) => return Checked::Refused(why),
-            Decoded::Whole(kind, length) => {
+        match measure_at(session, at) {
+            Measured::Refused(why) => return Checked::Refused(why),
+            Measured::Whole(answer, length) => {
                 at += length;
-                entries += 3 + answer_length(kind) as usize;
+                entries += 3 + answer as usize;
                 left -= 1;
             }
         }

@@ -1,7 +1,7 @@
 -- At or past the end there is no kind byte; before it the decoder is given the part.
 use borrow.Author.Needs.{needs}
 use Rattle.laws.specs.ReaderLaws.{part-none}
-use Rattle.record.proofs.DecoderLaws.{no-kind}
+use Rattle.record.proofs.DecoderLaws.{no-kind, decode-refused}
 use Rattle.reader.proofs.next_at.Statement.{statement}
 use Rattle.reader.proofs.next_at.Tie as tie
 
@@ -11,7 +11,7 @@ records-end-requires c κs = search needs
 returns : tie.Need-returns
 returns c =
     let start = c .before .before .before in
-    no-kind _ (part-none (start .args .session .now) (start .args .at) (rw (c .before .records-end .ensures) at (c .if1 .taken)))
+    decode-refused _ _ (no-kind _ (part-none (start .args .session .now) (start .args .at) (rw (c .before .records-end .ensures) at (c .if1 .taken))))
 
 sub-decode : tie.Need-sub-decode
 sub-decode c = search needs

@@ -2,10 +2,10 @@
 use mathlib.Core.Path.{sym, ap, _∙_}
 use native.Mathlib.Omega.{arith}
 use borrow.Author.Needs.{needs}
-use Rattle.record.specs.RecordAlone.{answer-alone}
-use Rattle.model.specs.Reader.{partAt}
+use Rattle.model.specs.Reader.{nextOf}
 use Rattle.laws.specs.ReaderLaws.{next-within}
-use Rattle.record.specs.DecodedRecord.{decodedOf}
+use Rattle.record.specs.DecodedRecord.{measuredOf}
+use Rattle.record.specs.HeadLaws.{refused-of, whole-of}
 use Rattle.validate.proofs.SessionCheckLaws.{Checking, checking-start, checking-refused, checking-next, checking-left, checking-done}
 use Rattle.validate.proofs.check_records.Statement.{statement}
 use Rattle.validate.proofs.check_records.Tie as tie
@@ -19,32 +19,29 @@ abbrev μ-loop : tie.MeasureT-loop
 loop-holds : tie.Need-loop-holds Inv-loop μ-loop
 loop-holds c = checking-start _ _ _
 
-record-at-requires : tie.Need-record-at-requires Inv-loop μ-loop
-record-at-requires c κs = search needs
+measure-at-requires : tie.Need-measure-at-requires Inv-loop μ-loop
+measure-at-requires c κs = search needs
 
 enum-known-why : tie.Need-enum-known-why Inv-loop μ-loop
 enum-known-why c = search needs
 
 returns : tie.Need-returns Inv-loop μ-loop
 returns c =
-    let start = c .before .before .before .before .before .before .before in
     let the-loop = c .before .before .before .before .before .loop in
     let loop-test = c .before .before .before .before .loop-test in
-    let record-at = c .before .before .before .record-at in
-    checking-refused _ _ _ _ _ _ (the-loop .inv) (loop-test .taken) _ (sym (ap (decodedOf (partAt (start .args .session .now) (the-loop .at))) (c .before .why .given .1)) ∙ record-at .ensures)
+    let measure-at = c .before .before .before .measure-at in
+    checking-refused _ _ _ _ _ _ (the-loop .inv) (loop-test .taken) _ (refused-of _ _ (sym (ap measuredOf (c .before .why .given .1)) ∙ measure-at .ensures))
 
-enum-known-kind : tie.Need-enum-known-kind Inv-loop μ-loop
-enum-known-kind c = search needs
+enum-known-answer : tie.Need-enum-known-answer Inv-loop μ-loop
+enum-known-answer c = search needs
 
 add-at : tie.Need-add-at Inv-loop μ-loop
 add-at c =
     let start = c .before .before .before .before .before .before .before in
     let the-loop = c .before .before .before .before .before .loop in
-    let record-at = c .before .before .before .record-at in
-    let w = next-within (start .args .session .now) (the-loop .at) _ _ (sym (record-at .ensures) ∙ ap (decodedOf (partAt (start .args .session .now) (the-loop .at))) (c .before .kind .given .1)) in omega arith
-
-answer-length-requires : tie.Need-answer-length-requires Inv-loop μ-loop
-answer-length-requires c κs = search needs
+    let measure-at = c .before .before .before .measure-at in
+    let k = whole-of _ _ (nextOf (start .args .session .now) (the-loop .at)) (sym (ap measuredOf (c .before .answer .given .1)) ∙ measure-at .ensures) in
+    let w = next-within (start .args .session .now) (the-loop .at) (k .0) (c .before .answer .given .0 .1 .0) (k .1) in omega arith
 
 cast-entries : tie.Need-cast-entries Inv-loop μ-loop
 cast-entries c = search needs
@@ -63,13 +60,11 @@ loop-less c = search needs
 
 loop-again : tie.Need-loop-again Inv-loop μ-loop
 loop-again c =
-    let start = c .before .before .before .before .before .before .before .before in
-    let the-loop = c .before .before .before .before .before .before .loop in
-    let loop-test = c .before .before .before .before .before .loop-test in
-    let record-at = c .before .before .before .before .record-at in
-    checking-next _ _ _ _ _ _ (the-loop .inv) (loop-test .taken) _ _ _
-    (sym (ap (decodedOf (partAt (start .args .session .now) (the-loop .at))) (c .before .before .kind .given .1)) ∙ record-at .ensures)
-    (c .answer-length .ensures ∙ sym (answer-alone (partAt (start .args .session .now) (the-loop .at)) (c .before .before .kind .given .0 .1 .0) (c .before .before .kind .given .0 .0))) (omega arith)
+    let the-loop = c .before .before .before .before .before .loop in
+    let loop-test = c .before .before .before .before .loop-test in
+    let measure-at = c .before .before .before .measure-at in
+    let k = whole-of _ _ _ (sym (ap measuredOf (c .before .answer .given .1)) ∙ measure-at .ensures) in
+    checking-next _ _ _ _ _ _ (the-loop .inv) (loop-test .taken) (k .0) _ _ (sym (k .1)) (k .2) (search needs)
 
 records-end-requires : tie.Need-records-end-requires Inv-loop μ-loop
 records-end-requires c κs = search needs
@@ -91,12 +86,11 @@ check-records-spec =
     Inv-loop
     μ-loop
     loop-holds
-    record-at-requires
+    measure-at-requires
     enum-known-why
     returns
-    enum-known-kind
+    enum-known-answer
     add-at
-    answer-length-requires
     cast-entries
     add-entries
     add-entries-2

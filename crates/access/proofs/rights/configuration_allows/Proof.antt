@@ -1,20 +1,13 @@
--- The code of the address's area, applied to its set.
+-- The code of the address, applied to its set.
 use borrow.Author.Needs.{needs}
-use Rattle.laws.specs.AccessLaws.{area-below}
 use Rattle.access.proofs.rights.configuration_allows.Statement.{statement}
 use Rattle.access.proofs.rights.configuration_allows.Tie as tie
-
-area-requires : tie.Need-area-requires
-area-requires c κs = search needs
-
-cast-area : tie.Need-cast-area
-cast-area c = search needs
 
 set-of-requires : tie.Need-set-of-requires
 set-of-requires c κs = search needs
 
-element-copy-out-permits : tie.Need-element-copy-out-permits
-element-copy-out-permits c = rw (c .before .area .ensures) (area-below _)
+code-requires : tie.Need-code-requires
+code-requires c κs = search needs
 
 permits-requires : tie.Need-permits-requires
 permits-requires c κs = search needs
@@ -23,12 +16,4 @@ returns : tie.Need-returns
 returns c = cc
 
 pub configuration-allows-spec : {M : Type 1} → statement M
-configuration-allows-spec =
-    tie.close
-    (tie.spec
-    area-requires
-    cast-area
-    set-of-requires
-    element-copy-out-permits
-    permits-requires
-    returns)
+configuration-allows-spec = tie.close (tie.spec set-of-requires code-requires permits-requires returns)

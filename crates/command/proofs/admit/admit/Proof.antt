@@ -3,7 +3,7 @@ use mathlib.Core.Path.{sym, ap, _∙_}
 use borrow.Author.Needs.{needs}
 use Rattle.record.specs.RefusalNumber.{outcomeNumber}
 use Rattle.record.specs.DecodedRecord.{decodedOf}
-use Rattle.command.proofs.AdmitLaws.{check-refused, record-refused, left-over, no-room, is-admitted}
+use Rattle.command.proofs.AdmitLaws.{check-refused, record-refused, left-over, known-head, no-room, is-admitted}
 use Rattle.command.proofs.admit.admit.Statement.{statement}
 use Rattle.command.proofs.admit.admit.Tie as tie
 
@@ -39,21 +39,33 @@ returns-2 c =
     left-over _ _ _ _ (sym (ap outcomeNumber (enum-told .given .1)) ∙ check .ensures) (c .before .before .kind .given .0 .0) _
     (sym (ap (decodedOf (start .args .«record» .now)) (c .before .before .kind .given .1)) ∙ decode .ensures) (c .if1 .taken)
 
+head-of-requires : tie.Need-head-of-requires
+head-of-requires c κs = search needs
+
 answer-length-requires : tie.Need-answer-length-requires
-answer-length-requires c κs = search needs
+answer-length-requires c κs =
+    let start = c .before .before .before .before .before .before .before .before .before .before .before in
+    let check = c .before .before .before .before .before .before .before .before .check in
+    let enum-told = c .before .before .before .before .before .before .enum-told in
+    let decode = c .before .before .before .before .before .decode in
+    let kind = c .before .before .before .kind in
+    known-head _ _ _ 0 (sym (ap outcomeNumber (enum-told .given .1)) ∙ check .ensures) (kind .given .0 .0) _
+    (sym (ap (decodedOf (start .args .«record» .now)) (kind .given .1)) ∙ decode .ensures) _ (c .head-of .ensures)
 
 cast-if2 : tie.Need-cast-if2
 cast-if2 c = search needs
 
 returns-3 : tie.Need-returns-3
 returns-3 c =
-    let start = c .before .before .before .before .before .before .before .before .before .before .before .before in
-    let check = c .before .before .before .before .before .before .before .before .before .check in
-    let enum-told = c .before .before .before .before .before .before .before .enum-told in
-    let decode = c .before .before .before .before .before .before .decode in
-    let kind = c .before .before .before .before .kind in
+    let start = c .before .before .before .before .before .before .before .before .before .before .before .before .before in
+    let check = c .before .before .before .before .before .before .before .before .before .before .check in
+    let enum-told = c .before .before .before .before .before .before .before .before .enum-told in
+    let decode = c .before .before .before .before .before .before .before .decode in
+    let kind = c .before .before .before .before .before .kind in
+    let if1 = c .before .before .before .if1 in
     no-room _ _ _ _ (sym (ap outcomeNumber (enum-told .given .1)) ∙ check .ensures) (kind .given .0 .0) _
-    (sym (ap (decodedOf (start .args .«record» .now)) (kind .given .1)) ∙ decode .ensures) _ (c .before .before .if1 .left) (c .before .answer-length .ensures) (c .if2 .taken)
+    (sym (ap (decodedOf (start .args .«record» .now)) (kind .given .1)) ∙ decode .ensures)
+    _ (c .before .before .head-of .ensures) _ (if1 .left) (c .before .answer-length .ensures) (c .if2 .taken)
 
 returns-4 : tie.Need-returns-4
 returns-4 c =
@@ -66,13 +78,15 @@ returns-4 c =
 
 returns-5 : tie.Need-returns-5
 returns-5 c =
-    let start = c .before .before .before .before .before .before .before .before .before .before .before .before in
-    let check = c .before .before .before .before .before .before .before .before .before .check in
-    let enum-told = c .before .before .before .before .before .before .before .enum-told in
-    let decode = c .before .before .before .before .before .before .decode in
-    let kind = c .before .before .before .before .kind in
+    let start = c .before .before .before .before .before .before .before .before .before .before .before .before .before in
+    let check = c .before .before .before .before .before .before .before .before .before .before .check in
+    let enum-told = c .before .before .before .before .before .before .before .before .enum-told in
+    let decode = c .before .before .before .before .before .before .before .decode in
+    let kind = c .before .before .before .before .before .kind in
+    let if1 = c .before .before .before .if1 in
     is-admitted _ _ _ _ (sym (ap outcomeNumber (enum-told .given .1)) ∙ check .ensures) (kind .given .0 .0) _
-    (sym (ap (decodedOf (start .args .«record» .now)) (kind .given .1)) ∙ decode .ensures) _ (c .before .before .if1 .left) (c .before .answer-length .ensures) (c .if2 .left)
+    (sym (ap (decodedOf (start .args .«record» .now)) (kind .given .1)) ∙ decode .ensures)
+    _ (c .before .before .head-of .ensures) _ (if1 .left) (c .before .answer-length .ensures) (c .if2 .left)
 
 pub admit-spec : {M : Type 1} → statement M
 admit-spec =
@@ -86,6 +100,7 @@ admit-spec =
     enum-known-why-2
     enum-known-kind
     returns-2
+    head-of-requires
     answer-length-requires
     cast-if2
     returns-3

@@ -1,22 +1,28 @@
 -- The entry's header, then its response, each in its place.
-use mathlib.Core.Path.{refl, sym, _∙_}
+use mathlib.Core.Path.{refl}
 use borrow.Author.Needs.{needs}
-use Rattle.record.specs.RecordAlone.{answer-alone, kind-alone}
-use Rattle.session.proofs.SessionWriteLaws.{entry-ready, entry-written}
+use Rattle.session.proofs.SessionWriteLaws.{entry-known, entry-ready, entry-written}
 use Rattle.session.proofs.write.write_entry.Statement.{statement}
 use Rattle.session.proofs.write.write_entry.Tie as tie
 
-kind-number-requires : tie.Need-kind-number-requires
-kind-number-requires c κs = search needs
-
 answer-length-requires : tie.Need-answer-length-requires
-answer-length-requires c κs = search needs
+answer-length-requires c κs =
+    let start = c .before .before .before in
+    entry-known _ _ _ _ (start .pre .1) _ (start .pre .0)
 
-cast-put-header : tie.Need-cast-put-header
-cast-put-header c = search needs
+cast-answer : tie.Need-cast-answer
+cast-answer c = search needs
 
 put-header-requires : tie.Need-put-header-requires
 put-header-requires c κs = search needs
+
+made-requires : tie.Need-made-requires
+made-requires c κs = search needs
+
+record-length-requires : tie.Need-record-length-requires
+record-length-requires c κs =
+    let start = c .before .before .before .before .before .before .before .before .before in
+    entry-known _ _ _ _ (start .pre .1) _ (start .pre .0)
 
 add-from : tie.Need-add-from
 add-from c = search needs
@@ -32,11 +38,12 @@ part-carry-out-end c = search needs
 
 carry-out-requires : tie.Need-carry-out-requires
 carry-out-requires c κs =
-    let start = c .before .before .before .before .before .before .before .before .before .before .before in
-    let kind-number = c .before .before .before .before .before .before .kind-number in
-    let answer-length = c .before .before .before .before .before .answer-length in
-    let put-header = c .before .before .before .before .put-header in
-    entry-ready _ _ _ _ _ _ (start .pre) _ _ _ (kind-number .ensures ∙ sym (kind-alone (start .args .part .now) (start .args .length) (start .args .kind))) (answer-length .ensures ∙ sym (answer-alone (start .args .part .now) (start .args .length) (start .args .kind))) (put-header .ensures) _ _ refl refl
+    let start = c .before .before .before .before .before .before .before .before .before .before .before .before in
+    let answer-length = c .before .before .before .before .before .before .before .before .answer-length in
+    let put-header = c .before .before .before .before .before .before .put-header in
+    let made = c .before .before .before .made in
+    entry-ready _ _ _ _ (start .pre .1) _ (start .pre .0)
+    _ _ _ _ (answer-length .ensures) (put-header .ensures) (made .ensures) (c .before .before .record-length .ensures) _ _ refl refl
 
 same-length : tie.Need-same-length
 same-length c = search needs
@@ -46,21 +53,24 @@ same-length-2 c = search needs
 
 returns : tie.Need-returns
 returns c =
-    let start = c .before .before .before .before .before .before .before .before .before .before .before .before .before .before .before .before in
-    let kind-number = c .before .before .before .before .before .before .before .before .before .before .before .kind-number in
-    let answer-length = c .before .before .before .before .before .before .before .before .before .before .answer-length in
-    let put-header = c .before .before .before .before .before .before .before .before .before .put-header in
+    let start = c .before .before .before .before .before .before .before .before .before .before .before .before .before .before .before .before .before in
+    let answer-length = c .before .before .before .before .before .before .before .before .before .before .before .before .before .answer-length in
+    let put-header = c .before .before .before .before .before .before .before .before .before .before .before .put-header in
+    let made = c .before .before .before .before .before .before .before .before .made in
+    let record-length = c .before .before .before .before .before .before .before .record-length in
     let carry-out = c .before .before .before .before .carry-out in
-    entry-written _ _ _ _ _ _ (start .pre) _ _ _ (kind-number .ensures ∙ sym (kind-alone (start .args .part .now) (start .args .length) (start .args .kind))) (answer-length .ensures ∙ sym (answer-alone (start .args .part .now) (start .args .length) (start .args .kind))) (put-header .ensures) _ _ refl refl _ _ _ (carry-out .ensures)
+    entry-written _ _ _ _ (start .pre .1) _ (start .pre .0)
+    _ _ _ _ (answer-length .ensures) (put-header .ensures) (made .ensures) (record-length .ensures) _ _ refl refl _ _ _ (carry-out .ensures)
 
 pub write-entry-spec : {M : Type 1} → statement M
 write-entry-spec =
     tie.close
     (tie.spec
-    kind-number-requires
     answer-length-requires
-    cast-put-header
+    cast-answer
     put-header-requires
+    made-requires
+    record-length-requires
     add-from
     sub-carry-out
     part-carry-out-start

@@ -1,7 +1,7 @@
 -- Each return by its test.
 use Rattle.laws.specs.Loops.{tests}
-use Rattle.record.proofs.decoder.read_count.Statement.{statement}
-use Rattle.record.proofs.decoder.read_count.Tie as tie
+use Rattle.record.proofs.kind.read_count.Statement.{statement}
+use Rattle.record.proofs.kind.read_count.Tie as tie
 
 returns : tie.Need-returns
 returns c = search tests

@@ -1,0 +1,83 @@
+-- Each return by the tests that led to it, in their order.
+use Prim.Native.Nat.{_<_}
+use native.Mathlib.Omega.{arith}
+use borrow.Author.Needs.{needs}
+use Rattle.laws.specs.RecordLaws.{fixed-small, data-small}
+use Rattle.record.proofs.DecoderLaws.{no-kind, kind-zero, kind-large, fields-absent, out-of-range, data-absent, all-there}
+use Rattle.record.proofs.decoder.measure.Statement.{statement}
+use Rattle.record.proofs.decoder.measure.Tie as tie
+
+returns : tie.Need-returns
+returns c = search no-kind
+
+byte-at-requires : tie.Need-byte-at-requires
+byte-at-requires c κs = search needs
+
+returns-2 : tie.Need-returns-2
+returns-2 c = search kind-zero
+
+returns-3 : tie.Need-returns-3
+returns-3 c = search kind-large
+
+fixed-fields-requires : tie.Need-fixed-fields-requires
+fixed-fields-requires c κs = search needs
+
+add-start : tie.Need-add-start
+add-start c = rw (c .fixed-fields .ensures) (omega (arith, fixed-small (c .before .before .before .byte-at .result)))
+
+returns-4 : tie.Need-returns-4
+returns-4 c = search fields-absent
+
+byte-at-requires-2 : tie.Need-byte-at-requires-2
+byte-at-requires-2 c κs = search needs
+
+byte-at-requires-3 : tie.Need-byte-at-requires-3
+byte-at-requires-3 c κs = search needs
+
+in-range-requires : tie.Need-in-range-requires
+in-range-requires c κs = search needs
+
+returns-5 : tie.Need-returns-5
+returns-5 c = search out-of-range
+
+data-length-requires : tie.Need-data-length-requires
+data-length-requires c κs = search needs
+
+add-end : tie.Need-add-end
+add-end c =
+    let byte-at = c .before .before .before .before .before .before .before .before .before .byte-at in
+    let fixed-fields = c .before .before .before .before .before .before .fixed-fields in
+    let byte-at3 = c .before .before .before .byte-at3 in
+    let n : byte-at3 .result < 256 = search needs in
+    rw (fixed-fields .ensures, c .data-length .ensures)
+    (omega (arith, fixed-small (byte-at .result), data-small (byte-at .result) (byte-at3 .result) n))
+
+returns-6 : tie.Need-returns-6
+returns-6 c = search data-absent
+
+answer-length-requires : tie.Need-answer-length-requires
+answer-length-requires c κs = search needs
+
+returns-7 : tie.Need-returns-7
+returns-7 c = search all-there
+
+pub measure-spec : {M : Type 1} → statement M
+measure-spec =
+    tie.close
+    (tie.spec
+    returns
+    byte-at-requires
+    returns-2
+    returns-3
+    fixed-fields-requires
+    add-start
+    returns-4
+    byte-at-requires-2
+    byte-at-requires-3
+    in-range-requires
+    returns-5
+    data-length-requires
+    add-end
+    returns-6
+    answer-length-requires
+    returns-7)
