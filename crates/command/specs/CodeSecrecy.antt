@@ -87,7 +87,8 @@ from-model hidden xs b₁ b₂ s gs₁ gs₂ d₁ d₂ e r₁ r₂ w =
     record {
       observed =
           all-injective gs₁ gs₂
-          (m₁ .0 ∙ ap (λ (t : model.Volatile). replies xs (powered b₁ t)) e ∙ w .observed ∙ ap (λ (t : model.Volatile). replies xs (powered b₂ t)) (sym e) ∙ sym (m₂ .0));
+          (m₁ .0 ∙ ap (λ (t : model.Volatile). replies xs (powered b₁ t)) e ∙ w .observed ∙ ap (λ (t : model.Volatile). replies xs (powered b₂ t)) (sym e)
+          ∙ sym (m₂ .0));
       long = rw (f₁, f₂) (w .long);
       counters = λ n. rw (f₁, f₂) (w .counters n);
       outside = λ i h. rw (f₁, f₂) (w .outside i h);

@@ -79,5 +79,6 @@ pub volatile-injective : (v w : Volatile) → volatileOf v ≡ volatileOf w → 
 volatile-injective v w e =
     let a : v .active ≡ w .active = sym (active-back (v .active)) ∙ ap (λ (s : model.Volatile). activeFrom (s .active)) e ∙ active-back (w .active) in
     let t : v .authentication ≡ w .authentication =
-    sym (authentication-back (v .authentication)) ∙ ap (λ (s : model.Volatile). authenticationFrom (s .authentication)) e ∙ authentication-back (w .authentication) in
+    sym (authentication-back (v .authentication)) ∙ ap (λ (s : model.Volatile). authenticationFrom (s .authentication)) e
+    ∙ authentication-back (w .authentication) in
     λ i. record { zone = record { 0 = e i .zone }; active = a i; authentication = t i }

@@ -33,7 +33,8 @@ module _ (c : List ℕ) (s : Volatile) (a : ℕ) where
   unfolding any.apply
   read-configuration codes n e h = tab-cong _ _ n (λ k l. rw (e, column-allows 0 (at c fuseAt) (a + k) (s .active)) (configuration-shown n k h l))
 
-  pub write-configuration : (codes xs ys : List ℕ) (first base : ℕ) → codes ≡ columnOf 1 (at c fuseAt) → first ≡ a / 16 * 16 → base ≡ 2048 + first → a < 128 → length c ≡ cardSize
+  pub write-configuration : (codes xs ys : List ℕ) (first base : ℕ) → codes ≡ columnOf 1 (at c fuseAt) → first ≡ a / 16 * 16 → base ≡ 2048 + first → a < 128
+      → length c ≡ cardSize
       → ys ≡ stores (allowedOf codes first (s .active)) (λ k. (a % 16 + k) % 16) xs 0 (take (base + 16 - base) (drop base c))
       → take base c ++ (ys ++ drop (base + 16 - base) (drop base c)) ≡ apply c s (writeConfiguration a xs) .card
   unfolding any.apply
@@ -50,4 +51,11 @@ module _ (c : List ℕ) (s : Volatile) (a : ℕ) where
           let i : ℕ = configurationCell a k in
           let p : i ≡ base + (a + k) % 16 = omega arith in
           let e : first + (i - base) ≡ i - 2048 = omega arith in
-          rw (configuration-written (rules at88sc1608 c) s i (omega arith) (omega arith), configuration-merged (rules at88sc1608 c) i old new (omega arith), fuse-rule c, e, q, column-allows 1 (at c fuseAt) (i - 2048) (s .active))
+          rw (
+            configuration-written (rules at88sc1608 c) s i (omega arith) (omega arith),
+            configuration-merged (rules at88sc1608 c) i old new (omega arith),
+            fuse-rule c,
+            e,
+            q,
+            column-allows 1 (at c fuseAt) (i - 2048) (s .active),
+          )

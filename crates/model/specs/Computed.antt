@@ -10,5 +10,6 @@ use Rattle.model.specs.Single.{checkOf}
 
 -- to unfold this is to unfold all of it
 unfoldable pub computed : Unit {0}
-unfolding calls.replies calls.final calls.command calls.admission checkOf decode kinds fixedFields inRange dataLength made any.apply tab sameList stores mayRead mayWrite merge permissions areaOf stageOf permission permits reversed spentCounter blow
+unfolding calls.replies calls.final calls.command calls.admission checkOf decode kinds fixedFields inRange dataLength made
+    any.apply tab sameList stores mayRead mayWrite merge permissions areaOf stageOf permission permits reversed spentCounter blow
 computed = tt

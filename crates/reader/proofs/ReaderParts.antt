@@ -62,13 +62,20 @@ module _ (κ : Lft) (d : Reader) where
     asked : (q : Share) → ent 𝓤 (⋆ 𝓤 H A ((‵ (flft κ q) ⊛ ‵ ftrue) ∷ ‵ (owns (ShrSlice (named 0) κ u8 ∷ usize ∷ []) vd passed) ∷ [])) (Pre q)
     asked q = qed W ((‵ (flft κ q) ⊛ ‵ ftrue) ∷ ‵ (owns (ShrSlice (named 0) κ u8 ∷ usize ∷ []) vd passed) ∷ []) ∵ join ! $ frame ! $ done !
 
-    pub apart : (q : Share) → d .at < 2 ^ 64 → ent 𝓤 (⋆ 𝓤 H A ((‵ (flft κ q) ⊛ ‵ ftrue) ∷ ‵ (owns (B (κ, tt) ∷ []) (d, tt) (T′.lowered d ∷ [], tt)) ∷ [])) (sep 𝓤 (Pre q) (sem 𝓤 H A Own))
+    pub apart : (q : Share) → d .at < 2 ^ 64
+        → ent 𝓤 (⋆ 𝓤 H A ((‵ (flft κ q) ⊛ ‵ ftrue) ∷ ‵ (owns (B (κ, tt) ∷ []) (d, tt) (T′.lowered d ∷ [], tt)) ∷ [])) (sep 𝓤 (Pre q) (sem 𝓤 H A Own))
     apart q fits =
         qed W ((‵ (flft κ q) ⊛ ‵ ftrue) ∷ ‵ (owns (B (κ, tt) ∷ []) (d, tt) (T′.lowered d ∷ [], tt)) ∷ []) ∵
         move ! (1 ∷ []) $ fsplit ! $ move ! (1 ∷ []) $ drop ! $ use1 W (‵ Own ⊛ ‵ Own) twice $ split ! $
-        use1 W (given (T′.lowered d ∷ [] ≡ T′.lowered d ∷ []) (‵ (all-own (D .parts) L vd))) (own-open 𝓤 H A W D L vd (T′.lowered d)) $ learn ! (λ _. use1 W (‵ (ownAt (D .parts) L 0 (d .session)) ⊛ ‵ (rest (D .parts) L 0 vd)) (own-out 𝓤 H A W (D .parts) L 0 vd) $ split ! $
+        use1 W (given (T′.lowered d ∷ [] ≡ T′.lowered d ∷ []) (‵ (all-own (D .parts) L vd))) (own-open 𝓤 H A W D L vd (T′.lowered d)) $ learn !
+        (λ _. use1 W (‵ (ownAt (D .parts) L 0 (d .session)) ⊛ ‵ (rest (D .parts) L 0 vd)) (own-out 𝓤 H A W (D .parts) L 0 vd) $ split ! $
         -- [what session owns; what at owns; what the struct owns; the token]
-        move ! (1 ∷ []) $ drop ! $ nothing ! $ owned ! usize (Is usize) (uint-makes 𝓤 H A W w64) (d .at) _ (refl, fits) $ fjoin ! $ move ! (1 ∷ 0 ∷ []) $ fjoin ! $ move ! (2 ∷ 0 ∷ []) $ use2 W (raw (Pre q)) (asked q) $ frame ! $ done !)
+        move ! (1 ∷ []) $ drop ! $ nothing ! $ owned ! usize (Is usize) (uint-makes 𝓤 H A W w64) (d .at) _ (refl, fits) $ fjoin ! $ move !
+        (1 ∷ 0 ∷ []) $ fjoin ! $ move ! (2 ∷ 0 ∷ []) $ use2 W (raw (Pre q)) (asked q) $ frame ! $ done !)
 
-    pub moved : (n : ℕ) → n < 2 ^ 64 → ent 𝓤 (sem 𝓤 H A Own) (sem 𝓤 H A (B (κ, tt) .own (record { session = d .session; at = n }) (T′.lowered (record { session = d .session; at = n }) ∷ [])))
-    moved n ok = qed W (‵ Own ∷ []) ∵ owned ! usize (Is usize) (uint-makes 𝓤 H A W w64) n _ (refl, ok) $ move ! (1 ∷ 0 ∷ []) $ by ! (own-put 𝓤 H A W D L 1 vd n (T′.lowered d))
+    pub moved : (n : ℕ) → n < 2 ^ 64
+        → ent 𝓤 (sem 𝓤 H A Own) (sem 𝓤 H A
+        (B (κ, tt) .own (record { session = d .session; at = n }) (T′.lowered (record { session = d .session; at = n }) ∷ [])))
+    moved n ok =
+        qed W (‵ Own ∷ []) ∵ owned ! usize (Is usize) (uint-makes 𝓤 H A W w64) n _ (refl, ok) $ move ! (1 ∷ 0 ∷ []) $ by !
+        (own-put 𝓤 H A W D L 1 vd n (T′.lowered d))

@@ -55,16 +55,43 @@ module _ (s : List ℕ) where
           module _ (count : ℕ) (low : cardSize ≤ start) (high : start ≤ length s - trailerSize) (counts : count ≡ countOf s) where
             pub many : mostRecords < count → tooManyRecords ≡ frame s
             unfolding frame
-            many h = rw (le-leb _ _ long, le-leb _ _ short, eq-eqb _ _ first, eq-eqb _ _ second, ← starts, le-leb _ _ low, le-leb _ _ high, ← counts, lt-ltb _ _ h)
+            many h =
+                rw (le-leb _ _ long, le-leb _ _ short, eq-eqb _ _ first, eq-eqb _ _ second, ← starts, le-leb _ _ low, le-leb _ _ high, ← counts, lt-ltb _ _ h)
 
             module _ (ok : Bool) (few : count ≤ mostRecords) (fuses : ok ≡ isFuseByte (at s fuseAt)) where
               pub bad-fuses : not ok ≡ true → fuseByte ≡ frame s
               unfolding frame
-              bad-fuses t = rw (le-leb _ _ long, le-leb _ _ short, eq-eqb _ _ first, eq-eqb _ _ second, ← starts, le-leb _ _ low, le-leb _ _ high, ← counts, le-ltb _ _ few, ← fuses, t)
+              bad-fuses t =
+                  rw (
+                    le-leb _ _ long,
+                    le-leb _ _ short,
+                    eq-eqb _ _ first,
+                    eq-eqb _ _ second,
+                    ← starts,
+                    le-leb _ _ low,
+                    le-leb _ _ high,
+                    ← counts,
+                    le-ltb _ _ few,
+                    ← fuses,
+                    t,
+                  )
 
               pub well : not ok ≡ false → 0 ≡ frame s
               unfolding frame
-              well t = rw (le-leb _ _ long, le-leb _ _ short, eq-eqb _ _ first, eq-eqb _ _ second, ← starts, le-leb _ _ low, le-leb _ _ high, ← counts, le-ltb _ _ few, ← fuses, t)
+              well t =
+                  rw (
+                    le-leb _ _ long,
+                    le-leb _ _ short,
+                    eq-eqb _ _ first,
+                    eq-eqb _ _ second,
+                    ← starts,
+                    le-leb _ _ low,
+                    le-leb _ _ high,
+                    ← counts,
+                    le-ltb _ _ few,
+                    ← fuses,
+                    t,
+                  )
 
 -- ---- the records
 

@@ -40,8 +40,10 @@ same-length c = search needs
 
 returns : tie.Need-returns
 returns c =
+    let column = c .before .before .before .before .before .column in
+    let store-allowed = c .before .before .store-allowed in
     let pre = c .before .before .before .before .before .before .before .before .before .pre in
-    write-configuration _ _ _ _ _ _ _ _ (c .before .before .before .before .before .column .ensures) refl refl (pre .1) (pre .0) (c .before .before .store-allowed .ensures)
+    write-configuration _ _ _ _ _ _ _ _ (column .ensures) refl refl (pre .1) (pre .0) (store-allowed .ensures)
 
 pub write-configuration-spec : {M : Type 1} → statement M
 write-configuration-spec =

@@ -46,15 +46,19 @@ get2-requires c κs =
 
 check-records-requires : tie.Need-check-records-requires
 check-records-requires c κs =
+    let enum-told = c .before .before .enum-told in
     let start = c .before .before .before .before .before .before in
     let frame = c .before .before .before .before .frame in
-    let l = framed-well (start .args .session .now) (sym (frame .ensures) ∙ ap outcomeNumber (c .before .before .enum-told .given .1)) .few in rw (c .get2 .ensures .0) l
+    let l = framed-well (start .args .session .now) (sym (frame .ensures) ∙ ap outcomeNumber (enum-told .given .1)) .few in
+    rw (c .get2 .ensures .0) l
 
 returns-2 : tie.Need-returns-2
 returns-2 c =
+    let get4 = c .before .before .get4 in
     let frame = c .before .before .before .before .before .frame in
     let enum-told = c .before .before .before .enum-told in
-    records-checked _ _ _ _ (sym (ap outcomeNumber (enum-told .given .1)) ∙ frame .ensures) (c .before .before .get4 .ensures .0) (c .before .get2 .ensures .0) (c .check-records .ensures)
+    records-checked _ _ _ _ (sym (ap outcomeNumber (enum-told .given .1)) ∙ frame .ensures) (get4 .ensures .0) (c .before .get2 .ensures .0)
+    (c .check-records .ensures)
 
 pub check-spec : {M : Type 1} → statement M
 check-spec =

@@ -12,8 +12,9 @@ use Rattle.configuration.proofs.page.store_allowed.Tie as tie
 
 abbrev Inv-loop : tie.InvT-loop
 Inv-loop page₀ first low bytes codes active at₀ i₀ page at i =
-    (i ≤ length bytes) × (at ≡ (low + i) % 16) × (length page ≡ 16)
-    × (stores (allowedOf codes first (activeOf active)) (λ k. (low + k) % 16) (drop i bytes) i page ≡ stores (allowedOf codes first (activeOf active)) (λ k. (low + k) % 16) bytes 0 page₀)
+    (i ≤ length bytes) × (at ≡ (low + i) % 16) × (length page
+    ≡ 16) × (stores (allowedOf codes first (activeOf active)) (λ k. (low + k) % 16) (drop i bytes) i page
+    ≡ stores (allowedOf codes first (activeOf active)) (λ k. (low + k) % 16) bytes 0 page₀)
 
 abbrev μ-loop : tie.MeasureT-loop
 μ-loop page₀ first low bytes codes active at₀ i₀ page at i = length bytes - i

@@ -50,14 +50,21 @@ loop-less c = search needs
 loop-again : tie.Need-loop-again Inv-loop μ-loop
 unfolding reversals
 loop-again c =
-    let start = c .before .before .before in
-    (search needs, search needs, tab-next (λ k. reversed (at (start .args .from .now) (start .args .start + k))) _ _ _ _ _ (c .before .before .loop .inv .2) (c .before .loop-test .taken) (start .pre .1) (reversal-rule _ (c .shared-slice-known .given (start .args .start + c .before .before .loop .i) .fits)))
+    let the-loop = c .before .before .loop in
+    let start = c .before .before .before in (
+      search needs,
+      search needs,
+      tab-next (λ k. reversed (at (start .args .from .now) (start .args .start + k))) _ _ _ _ _ (the-loop .inv .2)
+          (c .before .loop-test .taken) (start .pre .1) (reversal-rule _ (c .shared-slice-known .given (start .args .start + the-loop .i) .fits)),
+    )
 
 same-length : tie.Need-same-length Inv-loop μ-loop
 same-length c = search needs
 
 returns : tie.Need-returns Inv-loop μ-loop
-returns c = tab-done (λ k. reversed (at (c .before .before .args .from .now) (c .before .before .args .start + k))) _ _ _ _ (c .before .loop .inv .2) (c .before .loop .inv .0) (search needs)
+returns c =
+    let start = c .before .before in
+    tab-done (λ k. reversed (at (start .args .from .now) (start .args .start + k))) _ _ _ _ (c .before .loop .inv .2) (c .before .loop .inv .0) (search needs)
 
 pub reverse-spec : {M : Type 1} → statement M
 reverse-spec =

@@ -54,13 +54,21 @@ same-length c = search needs
 
 returns : tie.Need-returns
 returns c =
-    let start = c .before .before .before .before .before .before .before .before .before .before .before .before .before .before .before .before .before .before .before .before .before .before in
-    let get4 = c .before .before .before .before .before .before .before .before .before .before .before .before .before .before .before .before .before .before .before .get4 in
-    let get2 = c .before .before .before .before .before .before .before .before .before .before .before .before .before .before .before .before .before .before .get2 in
+    let put-trailer = c .before .before .put-trailer in
+    let start =
+    c .before .before .before .before .before .before .before .before .before .before .before .before
+    .before .before .before .before .before .before .before .before .before .before in
+    let get4 =
+    c .before .before .before .before .before .before .before .before .before .before .before .before
+    .before .before .before .before .before .before .before .get4 in
+    let get2 =
+    c .before .before .before .before .before .before .before .before .before .before .before .before
+    .before .before .before .before .before .before .get2 in
     let copy = c .before .before .before .before .before .before .before .before .before .before .before .before .before .before .before .before .copy in
     let run-records = c .before .before .before .before .before .before .before .before .before .before .before .before .run-records in
     let copy2 = c .before .before .before .before .before .before .copy2 in
-    log-written _ _ _ (start .pre) _ _ _ _ refl (copy .ensures) (get4 .ensures .0) (get2 .ensures .0) _ _ _ _ (run-records .ensures) (copy2 .ensures) (c .before .before .put-trailer .ensures)
+    log-written _ _ _ (start .pre) _ _ _ _ refl (copy .ensures) (get4 .ensures .0) (get2 .ensures .0) _ _ _ _ (run-records .ensures) (copy2 .ensures)
+    (put-trailer .ensures)
 
 pub write-log-spec : {M : Type 1} → statement M
 write-log-spec =
