@@ -211,7 +211,7 @@ pub fn configuration_allows(codes: &[u8; 7], address: u8, active: Active) -> boo
     permits(code(codes, address), set, active)
 }
 
-// F is 7, 6, 4 or 0.
+// Whether a fuse byte has one of its four values.
 pub fn is_fuse_byte(fuses: u8) -> bool
     ensures { λ r. ⌜ r ≡ isFuseByte fuses ⌝ }
 {

@@ -12,7 +12,7 @@ use Rattle.model.specs.Volatile.{Volatile}
 use Rattle.model.specs.Command.{readConfiguration, writeConfiguration}
 use Rattle.model.specs.Access.{configurationAllows}
 use Rattle.laws.specs.AccessLaws.{fuse-rule, configuration-read, configuration-written, configuration-merged}
-use Rattle.model.specs.At88sc1608.{at88sc1608, configurationByte, configurationCell}
+use Rattle.model.specs.At88sc1608.{at88sc1608, configurationByte, configurationCell, configurationAt}
 use Rattle.model.specs.Apply.{rules, kept}
 use Rattle.model.specs.Apply as any
 use Rattle.laws.specs.Loops.{stores-cong, stores-part}
@@ -22,18 +22,19 @@ use Rattle.configuration.specs.ConfigurationPage.{allowedOf}
 
 module _ (c : List ℕ) (s : Volatile) (a : ℕ) where
   configuration-shown : (n k : ℕ) → a + n ≤ 128 → k < n → any.shown at88sc1608 c s (configurationByte a k)
-      ≡ cond (configurationAllows 0 (at c fuseAt) (a + k) (s .active)) (at c (2048 + (a + k))) 0
+      ≡ cond (configurationAllows 0 (at c fuseAt) (a + k) (s .active)) (at c (configurationAt + (a + k))) 0
   configuration-shown n k h l =
-      let e : configurationByte a k ≡ 2048 + (a + k) = omega arith in
-      let w : 2048 + (a + k) - 2048 ≡ a + k = omega arith in
+      let e : configurationByte a k ≡ configurationAt + (a + k) = omega arith in
+      let w : configurationAt + (a + k) - configurationAt ≡ a + k = omega arith in
       rw (configuration-read (rules at88sc1608 c) s (configurationByte a k) (omega arith) (omega arith), fuse-rule c, e, w)
 
   pub read-configuration : (codes : List ℕ) (n : ℕ) → codes ≡ columnOf 0 (at c fuseAt) → a + n ≤ 128 → apply c s (readConfiguration a n) .report .answer
-      ≡ tab (λ k. cond (columnAllows codes (a + k) (s .active)) (at c (2048 + (a + k))) 0) n
+      ≡ tab (λ k. cond (columnAllows codes (a + k) (s .active)) (at c (configurationAt + (a + k))) 0) n
   unfolding any.apply
   read-configuration codes n e h = tab-cong _ _ n (λ k l. rw (e, column-allows 0 (at c fuseAt) (a + k) (s .active)) (configuration-shown n k h l))
 
-  pub write-configuration : (codes xs ys : List ℕ) (first base : ℕ) → codes ≡ columnOf 1 (at c fuseAt) → first ≡ a / 16 * 16 → base ≡ 2048 + first → a < 128
+  pub write-configuration : (codes xs ys : List ℕ) (first base : ℕ) → codes ≡ columnOf 1 (at c fuseAt) → first ≡ a / 16 * 16 → base ≡ configurationAt + first
+      → a < 128
       → length c ≡ cardSize
       → ys ≡ stores (allowedOf codes first (s .active)) (λ k. (a % 16 + k) % 16) xs 0 (take (base + 16 - base) (drop base c))
       → take base c ++ (ys ++ drop (base + 16 - base) (drop base c)) ≡ apply c s (writeConfiguration a xs) .card
@@ -50,12 +51,12 @@ module _ (c : List ℕ) (s : Volatile) (a : ℕ) where
       cell-kept k old new =
           let i : ℕ = configurationCell a k in
           let p : i ≡ base + (a + k) % 16 = omega arith in
-          let e : first + (i - base) ≡ i - 2048 = omega arith in
+          let e : first + (i - base) ≡ i - configurationAt = omega arith in
           rw (
             configuration-written (rules at88sc1608 c) s i (omega arith) (omega arith),
             configuration-merged (rules at88sc1608 c) i old new (omega arith),
             fuse-rule c,
             e,
             q,
-            column-allows 1 (at c fuseAt) (i - 2048) (s .active),
+            column-allows 1 (at c fuseAt) (i - configurationAt) (s .active),
           )

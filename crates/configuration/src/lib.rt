@@ -4,6 +4,7 @@ ghost use mathlib.Core.Bool.{cond};
 ghost use mathlib.Core.List.{_++_};
 ghost use Prim.Native.Nat.{_+_, _<_, _≤_};
 ghost use lib.ListN.{length, drop};
+ghost use Rattle.model.specs.At88sc1608.{configurationAt};
 ghost use Rattle.model.specs.Sizes.{cardSize};
 ghost use Rattle.model.specs.Lists.{at};
 ghost use Rattle.model.specs.Command.{readConfiguration, writeConfiguration};
@@ -24,7 +25,7 @@ pub mod reversal;
 // The byte at a configuration address as it is answered: $00 where it may not be read.
 fn shown(card: &[u8], codes: &[u8; 7], active: Active, address: u8) -> u8
     requires { ⌜ (length (now card) ≡ cardSize) × (address < 128) ⌝ }
-    ensures { λ r. ⌜ r ≡ cond (columnAllows (now (codes .entry)) address (activeOf active)) (at (now (card .entry)) (2048 + address)) 0 ⌝ }
+    ensures { λ r. ⌜ r ≡ cond (columnAllows (now (codes .entry)) address (activeOf active)) (at (now (card .entry)) (configurationAt + address)) 0 ⌝ }
 {
     let byte = card[CONFIGURATION + address as usize];
     if configuration_allows(codes, address, active) {

@@ -11,7 +11,7 @@ use Rattle.laws.specs.ListLaws.{at-tab}
 use Rattle.laws.specs.BoolLaws.{choice}
 use Rattle.model.specs.Volatile.{Volatile}
 use Rattle.model.specs.Access.{zoneReadable, zoneWritable, zoneMerge, areaOf, stageOf, configurationAllows}
-use Rattle.model.specs.At88sc1608.{at88sc1608, registerAt, ruleAt, fuses, registerOf, mayRead, mayWrite, merge}
+use Rattle.model.specs.At88sc1608.{at88sc1608, registerAt, ruleAt, fuses, registerOf, mayRead, mayWrite, merge, configurationAt}
 use Rattle.model.specs.Apply.{rules}
 
 -- ---- the rule bytes of a card
@@ -26,32 +26,33 @@ register-rule c z h =
 
 -- ---- a place of a zone
 
-pub zone-read : (ρ : List ℕ) (s : Volatile) (i : ℕ) → i < 2048 → mayRead ρ s i ≡ zoneReadable (fuses ρ) (registerOf ρ (i / 256)) s
+pub zone-read : (ρ : List ℕ) (s : Volatile) (i : ℕ) → i < configurationAt → mayRead ρ s i ≡ zoneReadable (fuses ρ) (registerOf ρ (i / 256)) s
 unfolding mayRead
-zone-read ρ s i h = rw (lt-ltb i 2048 h)
+zone-read ρ s i h = rw (lt-ltb i configurationAt h)
 
-pub zone-written : (ρ : List ℕ) (s : Volatile) (i : ℕ) → i < 2048 → mayWrite ρ s i ≡ zoneWritable (fuses ρ) (registerOf ρ (i / 256)) s
+pub zone-written : (ρ : List ℕ) (s : Volatile) (i : ℕ) → i < configurationAt → mayWrite ρ s i ≡ zoneWritable (fuses ρ) (registerOf ρ (i / 256)) s
 unfolding mayWrite
-zone-written ρ s i h = rw (lt-ltb i 2048 h)
+zone-written ρ s i h = rw (lt-ltb i configurationAt h)
 
-pub zone-merged : (ρ : List ℕ) (i old new : ℕ) → i < 2048 → merge ρ i old new ≡ zoneMerge (fuses ρ) (registerOf ρ (i / 256)) old new
+pub zone-merged : (ρ : List ℕ) (i old new : ℕ) → i < configurationAt → merge ρ i old new ≡ zoneMerge (fuses ρ) (registerOf ρ (i / 256)) old new
 unfolding merge
-zone-merged ρ i old new h = rw (lt-ltb i 2048 h)
+zone-merged ρ i old new h = rw (lt-ltb i configurationAt h)
 
 -- ---- a place of the configuration
 
-pub configuration-read : (ρ : List ℕ) (s : Volatile) (i : ℕ) → 2048 ≤ i → i < fuseAt → mayRead ρ s i ≡ configurationAllows 0 (fuses ρ) (i - 2048) (s .active)
+pub configuration-read : (ρ : List ℕ) (s : Volatile) (i : ℕ) → configurationAt ≤ i → i < fuseAt
+    → mayRead ρ s i ≡ configurationAllows 0 (fuses ρ) (i - configurationAt) (s .active)
 unfolding mayRead
-configuration-read ρ s i h k = rw (le-ltb i 2048 h, lt-ltb i fuseAt k)
+configuration-read ρ s i h k = rw (le-ltb i configurationAt h, lt-ltb i fuseAt k)
 
-pub configuration-written : (ρ : List ℕ) (s : Volatile) (i : ℕ) → 2048 ≤ i → i < fuseAt
-    → mayWrite ρ s i ≡ configurationAllows 1 (fuses ρ) (i - 2048) (s .active)
+pub configuration-written : (ρ : List ℕ) (s : Volatile) (i : ℕ) → configurationAt ≤ i → i < fuseAt
+    → mayWrite ρ s i ≡ configurationAllows 1 (fuses ρ) (i - configurationAt) (s .active)
 unfolding mayWrite
-configuration-written ρ s i h k = rw (le-ltb i 2048 h, lt-ltb i fuseAt k)
+configuration-written ρ s i h k = rw (le-ltb i configurationAt h, lt-ltb i fuseAt k)
 
-pub configuration-merged : (ρ : List ℕ) (i old new : ℕ) → 2048 ≤ i → merge ρ i old new ≡ new
+pub configuration-merged : (ρ : List ℕ) (i old new : ℕ) → configurationAt ≤ i → merge ρ i old new ≡ new
 unfolding merge
-configuration-merged ρ i old new h = rw (le-ltb i 2048 h)
+configuration-merged ρ i old new h = rw (le-ltb i configurationAt h)
 
 -- ---- the entries of the table exist
 

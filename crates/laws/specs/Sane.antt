@@ -21,7 +21,7 @@ use Rattle.model.specs.Device.{Device, Counter, ofPassword, ofAuthentication, c
 use Rattle.model.specs.Call.{Powered, Call}
 use Rattle.laws.specs.CallLaws.{clear, list-keeps}
 use Rattle.model.specs.Access.{pgo}
-use Rattle.model.specs.At88sc1608.{at88sc1608, fuses, registerOf, mayWrite, merge, blow}
+use Rattle.model.specs.At88sc1608.{at88sc1608, fuses, registerOf, mayWrite, merge, blow, configurationAt}
 use Rattle.model.specs.Apply.{rules, kept}
 use Rattle.model.specs.Apply as any
 use Rattle.model.specs.Record.{decode}
@@ -122,7 +122,7 @@ module _ (D : Device) where
 merge-byte : (ρ : List ℕ) (i old new : ℕ) → old < 256 → new < 256 → merge ρ i old new < 256
 unfolding merge
 merge-byte ρ i old new o n =
-    choice (λ x. x < 256) (ltb i 2048) _ new
+    choice (λ x. x < 256) (ltb i configurationAt) _ new
     (choice (λ x. x < 256) (not (eqb (fuses ρ) 7) && pgo (registerOf ρ (i / 256))) (bitAnd old new) new
     (let h : bitAnd old new ≤ old = and-le-l old new in omega arith) n) n
 

@@ -12,13 +12,23 @@ use Rattle.model.specs.Access.{zoneReadable, zoneWritable, zoneMerge, co
 
 -- ---- the map
 
--- where the configuration starts
+-- where the configuration starts; in it the access registers at $10, the authentication attempts counter (AAC) at $20, the
+-- cryptogram at $28
 abbrev pub configurationAt : ℕ
 configurationAt = 2048
 
--- the access register of a zone: $10 on
+abbrev pub registersAt : ℕ
+registersAt = configurationAt + 0x10
+
+abbrev pub attemptsAt : ℕ
+attemptsAt = configurationAt + 0x20
+
+abbrev pub cryptogramAt : ℕ
+cryptogramAt = configurationAt + 0x28
+
+-- the access register of a zone
 abbrev pub registerAt : ℕ → ℕ
-registerAt z = configurationAt + 16 + z % 8
+registerAt z = registersAt + z % 8
 
 -- Byte k of a read goes on at $00 of the zone past $FF. Byte k of a write stays in its page of 16 bytes.
 abbrev pub zoneByte : ℕ → ℕ → ℕ → ℕ
@@ -92,8 +102,8 @@ at88sc1608 =
       counterAt = counterAt;
       passwordByte = passwordByte;
       passwordCount = 3;
-      attemptsAt = configurationAt + 32;
-      cryptogramCell = λ k. configurationAt + 40 + k % 8;
+      attemptsAt = attemptsAt;
+      cryptogramCell = λ k. cryptogramAt + k % 8;
       spend = spentCounter;
       mayBlow = λ s. isActive (s .active) 7;
       blow = blow;

@@ -36,7 +36,7 @@ abbrev pub Every : (Command → Type 0) → List Command → Type 0
 Every P [] = Unit {0}
 Every P (k ∷ ks) = P k × Every P ks
 
--- command k of a list, and the card and the state that the commands before it have reached
+-- command k of a list, and where the commands before it lead: a card and a state
 abbrev pub commandAt : List Command → ℕ → Command
 commandAt ks k = getD ks k powerCycle
 

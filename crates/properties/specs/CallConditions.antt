@@ -1,5 +1,5 @@
 -- When a single command is refused: each number's condition by itself, from the card, the volatile state, the record's bytes and the
--- response space alone ("Sent back with a number": single command 11, 5, 12, record, 9, 10).
+-- response space alone, in the order of "Sent back with a number".
 use Prim.Native.Nat.{ℕ}
 use mathlib.Core.Bool.{Bool, false, not, _||_}
 use mathlib.Core.List.{List, [], _∷_, _++_}

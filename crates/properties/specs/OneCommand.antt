@@ -15,8 +15,8 @@ use Rattle.properties.specs.EachRecord.{one-record}
 
 -- a session of bytes that is accepted with the commands ks
 module _ (s log : List ℕ) (ks : List Command) (bytes : Bytes s) (a : Accepts s log ks) where
-  -- With the card and the state that the session has reached before record k, the bytes of record k and enough space, a single
-  -- command gives the response that the log holds for k, and leaves the card and the state before record k + 1.
+  -- On the card, and in the state, to which the records before record k have led, given the bytes of record k and enough space, a
+  -- single command gives the response that the log holds for k, and leaves the card and the state before record k + 1.
   pub single : (k : ℕ) → k < countOf s → (space : List ℕ) → length (answerIn (logOf s ks) (find (logOf s ks) k)) ≤ length space
       → command (reached ks (initial s) k .card) (reached ks (initial s) k .state) (calling (recordAt s (placePast k s (startOf s))) space)
       ≡ leaving (reached ks (initial s) (suc k)) (answerIn (logOf s ks) (find (logOf s ks) k)) space

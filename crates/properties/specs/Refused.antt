@@ -1,4 +1,4 @@
--- A refusal gives its number and length 0, hands the state back and changes nothing that was lent ("Sent back with a number").
+-- What a refusal leaves: its number, no response, the state as given, and every lent byte as it was ("Sent back with a number").
 use Prim.Native.Nat.{ℕ, suc}
 use mathlib.Core.List.{List}
 use mathlib.Core.Path.{_≡_}

@@ -1,5 +1,5 @@
 -- When a session is refused: each number's condition by itself, from the session's bytes and the length of the log space alone
--- ("Sent back with a number": session 1 to 5, records in turn, 9, 10).
+-- and in the order of "Sent back with a number".
 use Prim.Native.Nat.{ℕ, zero, suc, _+_}
 use mathlib.Core.Bool.{not}
 use mathlib.Core.List.{List, [], _∷_, _++_}

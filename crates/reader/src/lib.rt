@@ -10,7 +10,7 @@ use record::decoder::measure;
 use record::refusal::Refusal;
 use sizes::TRAILER;
 
-// Where the records of a session end: at its trailer, or at 0 if there are fewer than eight bytes.
+// Where the records of a session end: at its trailer, or at 0 where it is shorter than one.
 pub fn records_end(session: &[u8]) -> usize
     ensures { λ r. ⌜ r ≡ recordsEnd (length (now (session .entry))) ⌝ }
 {

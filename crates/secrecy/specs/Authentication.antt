@@ -11,7 +11,7 @@ use Rattle.model.specs.Volatile.{Volatile, powerUp, isGranted}
 use Rattle.model.specs.Command.{Command}
 use Rattle.model.specs.Call.{Call}
 use Rattle.model.specs.Access.{ate}
-use Rattle.model.specs.At88sc1608.{at88sc1608, fuses, registerAt, registerOf}
+use Rattle.model.specs.At88sc1608.{at88sc1608, fuses, registerAt, registerOf, attemptsAt, configurationAt}
 use Rattle.model.specs.Apply.{rules}
 use Rattle.laws.specs.AccessLaws.{fuse-rule, register-rule, zone-read}
 use Rattle.model.specs.Record.{decode}
@@ -29,7 +29,7 @@ abbrev Locked : Volatile → Type 0
 Locked s = isGranted (s .authentication) ≡ false
 
 -- a place of the configuration, or the fuse byte, is not in the zone
-pub not-hidden : (z i : ℕ) → z < 8 → 2048 ≤ i → inZone z i ≡ false
+pub not-hidden : (z i : ℕ) → z < 8 → configurationAt ≤ i → inZone z i ≡ false
 not-hidden z i zl l = ne-eqb (i / 256) z (λ q. omega arith)
 
 decides : (z : ℕ) → z < 8 → Open at88sc1608 (inZone z)
@@ -47,7 +47,7 @@ decides z zl =
 
     counter-open : (n : Counter) → inZone z (counterPlace at88sc1608 n) ≡ false
     counter-open (ofPassword k) = not-hidden z _ zl (omega arith)
-    counter-open ofAuthentication = not-hidden z 2080 zl (omega arith)
+    counter-open ofAuthentication = not-hidden z attemptsAt zl (omega arith)
 
 confines : (z : ℕ) → z < 8 → (ρ : List ℕ) → fuses ρ ≡ 0 → ate (registerOf ρ z) ≡ true → Confines at88sc1608 ρ (inZone z) secret Locked
 confines z zl ρ sealed demanded =

@@ -13,7 +13,7 @@ use Rattle.model.specs.Volatile.{Volatile, powerUp, isActive, isGranted}
 use Rattle.model.specs.Command.{Command, verifyPassword}
 use Rattle.model.specs.Call.{Call}
 use Rattle.model.specs.Access.{rpe, ate, passwordSet, met, setOf}
-use Rattle.model.specs.At88sc1608.{at88sc1608, fuses, registerAt, registerOf, passwordByte, mayRead}
+use Rattle.model.specs.At88sc1608.{at88sc1608, fuses, registerAt, registerOf, passwordByte, mayRead, attemptsAt, configurationAt}
 use Rattle.model.specs.Apply.{rules, password}
 use Rattle.laws.specs.AccessLaws.{fuse-rule, register-rule, zone-read, configuration-read, configuration-written}
 use Rattle.model.specs.Record.{decode}
@@ -64,7 +64,7 @@ module _ (z p : ℕ) (zone : z < 8) (set : p < 8) where
       go false false q r e = at-password (8 + p) (omega arith) e
 
   -- a place of the configuration, or the fuse byte, that lies in no password of the set is not hidden
-  pub not-hidden : (i : ℕ) → 2048 ≤ i → ((k n : ℕ) → k % 8 ≡ p → i ≡ passwordByte k n → ⊥) → hidden i ≡ false
+  pub not-hidden : (i : ℕ) → configurationAt ≤ i → ((k n : ℕ) → k % 8 ≡ p → i ≡ passwordByte k n → ⊥) → hidden i ≡ false
   not-hidden i l apart =
       rw (
         ne-eqb (i / 256) z (λ q. omega arith),
@@ -87,7 +87,7 @@ module _ (z p : ℕ) (zone : z < 8) (set : p < 8) where
 
       counter-open : (n : Counter) → hidden (counterPlace at88sc1608 n) ≡ false
       counter-open (ofPassword k) = not-hidden _ (omega arith) (λ j n q e. password-counter j n (ofPassword k) (sym e))
-      counter-open ofAuthentication = not-hidden 2080 (omega arith) (λ j n q e. omega arith)
+      counter-open ofAuthentication = not-hidden attemptsAt (omega arith) (λ j n q e. omega arith)
 
   module _ (ρ : List ℕ) (sealed : fuses ρ ≡ 0) (demanded : rpe (registerOf ρ z) ≡ true) (ours : passwordSet (registerOf ρ z) ≡ p) where
     unreadable : (s : Volatile) → Locked s → (i : ℕ) → hidden i ≡ true → mayRead ρ s i ≡ false
@@ -115,7 +115,7 @@ module _ (z p : ℕ) (zone : z < 8) (set : p < 8) where
         record {
           decides = decides;
           password-open = λ j i t. not-hidden _ (omega arith)
-              (λ k n q e. eqb-false (j % 8) p t (sym (password-set j i) ∙ ap (λ (a : ℕ). setOf (a - 2048)) e ∙ password-set k n ∙ q));
+              (λ k n q e. eqb-false (j % 8) p t (sym (password-set j i) ∙ ap (λ (a : ℕ). setOf (a - configurationAt)) e ∙ password-set k n ∙ q));
           unreadable = unreadable;
           password-kept = password-kept;
           password-apart = λ j i e. omega arith;

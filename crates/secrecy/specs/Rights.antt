@@ -10,7 +10,7 @@ use Rattle.model.specs.Lists.{at}
 use Rattle.model.specs.Volatile.{Volatile, Active, isActive}
 use Rattle.model.specs.Access.{permissions, permission, permits, areaOf, stageOf, setOf, configurationAllows}
 use Rattle.model.specs.Sizes.{fuseAt}
-use Rattle.model.specs.At88sc1608.{at88sc1608, fuses, registerAt, passwordByte, ruleAt, blow}
+use Rattle.model.specs.At88sc1608.{at88sc1608, fuses, registerAt, passwordByte, ruleAt, blow, configurationAt}
 use Rattle.laws.specs.AccessLaws.{configuration-written}
 use Rattle.model.specs.Device.{Counter, ofPassword, ofAuthentication, counterPlace}
 use Rattle.laws.specs.Sane.{Untouched, fuse-shut, fuse-counter}
@@ -20,7 +20,7 @@ use Rattle.laws.specs.Sane.{Untouched, fuse-shut, fuse-counter}
 pub password-odd : (j i : ℕ) → passwordByte j i % 4 ≡ 1 + i % 3
 password-odd j i = omega arith
 
-pub password-set : (j i : ℕ) → setOf (passwordByte j i - 2048) ≡ j % 8
+pub password-set : (j i : ℕ) → setOf (passwordByte j i - configurationAt) ≡ j % 8
 password-set j i = omega arith
 
 -- ---- areas

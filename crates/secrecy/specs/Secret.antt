@@ -38,7 +38,7 @@ inZone z i = eqb (i / 256) z
 abbrev pub inPassword : ℕ → ℕ → Bool
 inPassword k i = eqb i (passwordByte k 0) || (eqb i (passwordByte k 1) || eqb i (passwordByte k 2))
 
--- the places of the claim about the read password: the zone's bytes, and the write and the read password of set p
+-- where the cards of `read-password` may differ: in the zone, and in either password of set p
 abbrev pub inZoneOrPasswords : ℕ → ℕ → ℕ → Bool
 inZoneOrPasswords z p i = inZone z i || (inPassword p i || inPassword (8 + p) i)
 

@@ -8,6 +8,7 @@ use lib.ListN.{length, drop}
 use Rattle.configuration.proofs.ConfigurationLaws.{read-configuration}
 use Rattle.access.specs.Column.{columnAllows}
 use Rattle.access.specs.State.{activeOf}
+use Rattle.model.specs.At88sc1608.{configurationAt}
 use Rattle.model.specs.Lists.{at, tab}
 use Rattle.laws.specs.Loops.{tab-start, tab-next, tab-done}
 use Rattle.configuration.proofs.read_configuration.Statement.{statement}
@@ -16,7 +17,7 @@ use Rattle.configuration.proofs.read_configuration.Tie as tie
 abbrev Inv-loop : tie.InvT-loop
 Inv-loop card address count response₀ codes active i₀ response i =
     (i ≤ count) × (length response ≡ length response₀)
-    × (response ≡ tab (λ k. cond (columnAllows codes (address + k) (activeOf active)) (at card (2048 + (address + k))) 0) i ++ drop i response₀)
+    × (response ≡ tab (λ k. cond (columnAllows codes (address + k) (activeOf active)) (at card (configurationAt + (address + k))) 0) i ++ drop i response₀)
 
 abbrev μ-loop : tie.MeasureT-loop
 μ-loop card address count response₀ codes active i₀ response i = count - i

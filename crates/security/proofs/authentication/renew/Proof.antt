@@ -6,7 +6,7 @@ use borrow.Author.Needs.{needs}
 use lib.ListN.{length, drop}
 use Rattle.security.specs.Cryptogram.{renewed}
 use Rattle.model.specs.Sizes.{cardSize}
-use Rattle.model.specs.At88sc1608.{at88sc1608}
+use Rattle.model.specs.At88sc1608.{at88sc1608, cryptogramAt}
 use Rattle.model.specs.Lists.{stores}
 use Rattle.laws.specs.Loops.{stores-next, stores-done}
 use Rattle.security.proofs.authentication.renew.Statement.{statement}
@@ -41,7 +41,7 @@ loop-again : tie.Need-loop-again Inv-loop μ-loop
 loop-again c =
     let start = c .before .before .before in
     let l : c .before .before .loop .i < length (start .args .bytes .now) = omega arith in
-    let q : 2088 + c .before .before .loop .i ≡ at88sc1608 .cryptogramCell (c .before .before .loop .i) = omega arith in
+    let q : cryptogramAt + c .before .before .loop .i ≡ at88sc1608 .cryptogramCell (c .before .before .loop .i) = omega arith in
     search (needs, stores-next)
 
 same-length : tie.Need-same-length Inv-loop μ-loop
