@@ -1,16 +1,16 @@
 -- Trials: records sent one by one, as single commands, to a whole card that was just powered up. What the tables of cases and of
 -- mistakes are computed with.
-use Prim.Native.Nat.{ℕ, _+_}
+use Prim.Native.Nat.{ℕ, _+_, _-_}
 use mathlib.Core.List.{List, [], _∷_, _++_, map}
 use lib.ListN.{replicate}
-use Rattle.model.specs.Sizes.{fuseAt}
+use Rattle.model.specs.Sizes.{cardSize, fuseAt}
 use Rattle.model.specs.Volatile.{Volatile, Active, none, selector, powerUp}
 use Rattle.model.specs.Call.{Call, Powered}
 use Rattle.model.specs.Single.{replies, final}
 
 -- a card of $FF bytes with the fuse byte f
 abbrev pub blank : ℕ → List ℕ
-blank f = replicate fuseAt 0xFF ++ (f ∷ [])
+blank f = replicate fuseAt 0xFF ++ (f ∷ replicate (cardSize - fuseAt - 1) 0xFF)
 
 -- records, each with a response space of four bytes that hold $99, sent to a card that was just powered up
 abbrev pub call : List ℕ → Call

@@ -8,7 +8,6 @@ use native.Mathlib.Omega.{arith}
 use borrow.Author.Tests.{eq-eqb, not-true}
 use lib.Dec.{eqb}
 use lib.ListN.{getD, set, replicate, length-set}
-use Rattle.model.specs.Sizes.{fuseAt}
 use Rattle.model.specs.Lists.{at, sameList}
 use Rattle.laws.specs.ListLaws.{sameList-refl, at-set-other}
 use Rattle.laws.specs.BoolLaws.{and-left, and-right}
@@ -20,6 +19,7 @@ use Rattle.model.specs.Call as calls
 use Rattle.model.specs.At88sc1608.{registerAt, passwordByte}
 use Rattle.model.specs.Record.{decode}
 use Rattle.model.specs.Computed.{computed}
+use Rattle.model.specs.Trials as trials
 use Rattle.model.specs.Single.{check, apply, admit, replies, final}
 use Rattle.secrecy.specs.Along.{Along}
 use Rattle.secrecy.specs.Secret.{password, inZone, inZoneOrPasswords, AgreeOutside, PresentsNeither, AcceptsNot, Indistinguishable}
@@ -88,7 +88,7 @@ along test Ok h (x ∷ xs) m t =
 
 -- a sealed card of $FF bytes
 abbrev blank : List ℕ
-blank = replicate fuseAt 0xFF ++ (0 ∷ [])
+blank = trials.blank 0
 
 abbrev call : List ℕ → ℕ → Call
 call bytes room = record { sent = bytes; space = replicate room 0x99 }
