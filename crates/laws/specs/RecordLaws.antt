@@ -10,7 +10,7 @@ use lib.Dec.{ltb, leb, eqb}
 use lib.ListN.{length, take, drop, length-take, length-drop}
 use lib.Seq.{length-take-le, getD-take, take-add, drop-at, take-all}
 use Rattle.model.specs.Lists.{at}
-use Rattle.laws.specs.BoolLaws.{choice, and-left, and-right}
+use Rattle.laws.specs.BoolLaws.{and-left, and-right}
 use Rattle.laws.specs.KindLaws.{each-kind, each-row}
 use Rattle.model.specs.Call.{whole}
 use Rattle.laws.specs.CallLaws.{past}

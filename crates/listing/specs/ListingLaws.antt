@@ -11,7 +11,7 @@ use Rattle.model.specs.Log.{Entry, entryBytes, entriesBytes, logTrailer, AllFit
 use Rattle.properties.specs.Written.{length-entry, kind-at, response-at, next-at, fits-two, first-entry, other-entries, offset-is, count-is, log-length}
 use Rattle.text.specs.Text.{line, lines, fusesLine}
 use Rattle.text.specs.TextLaws.{line-length}
-use Rattle.listing.specs.Listing.{linesAt, logLines, listing, Listed, listIn}
+use Rattle.listing.specs.Listing.{linesAt, logLines}
 
 entries-listed : (es : List Entry) (p q : List ℕ) (k : ℕ) → AllFit es → linesAt (length es) k (p ++ (entriesBytes es ++ q)) (length p) ≡ lines k es
 entries-listed [] p q k f = refl

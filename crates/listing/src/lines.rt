@@ -6,7 +6,7 @@ ghost use Rattle.model.specs.Lists as lists;
 ghost use Rattle.record.specs.RefusalNumber.{refusalNumber};
 ghost use Rattle.text.specs.Put.{Put};
 ghost use Rattle.listing.specs.Ready.{EntriesReady, LogReady};
-ghost use Rattle.text.specs.Text.{line, fusesLine, refusedLine};
+ghost use Rattle.text.specs.Text.{line, refusedLine};
 ghost use Rattle.listing.specs.Listing.{linesAt, logLines};
 use record::number::get2;
 use record::number::get4;

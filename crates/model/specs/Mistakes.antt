@@ -4,7 +4,6 @@ use Prim.Native.Nat.{ℕ, _+_}
 use mathlib.Core.List.{List, [], _∷_, _++_, map}
 use mathlib.Core.Path.{_≡_, refl}
 use lib.ListN.{set, take, drop, replicate}
-use Rattle.model.specs.Lists.{at}
 use Rattle.model.specs.At88sc1608.{registerAt, configurationAt}
 use Rattle.model.specs.Trials.{blank, spaces, left, activeNumber, Case}
 use Rattle.model.specs.Computed.{computed}

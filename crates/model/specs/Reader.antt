@@ -1,9 +1,9 @@
 -- The reader over a session ("a reader that holds the session's bytes and a place in them").
-use Prim.Native.Nat.{ℕ, _+_, _-_}
+use Prim.Native.Nat.{ℕ, _-_}
 use mathlib.Core.List.{List}
 use lib.ListN.{length, take, drop}
 use Rattle.model.specs.Sizes.{trailerSize}
-use Rattle.model.specs.Call.{Decoded, refused, whole}
+use Rattle.model.specs.Call.{Decoded}
 use Rattle.model.specs.Command.{Command}
 use Rattle.model.specs.Record.{decode}
 

@@ -6,7 +6,7 @@ use native.Mathlib.Omega.{arith}
 use borrow.Author.Tests.{ltb-true}
 use lib.ListN.{length, take, drop, length-append, length-take, length-drop, take-append-drop, drop-of-length-le}
 use lib.Seq.{sets, sets-eq, length-sets, drop-append-le, drop-drop, take-all, length-take-le}
-use Rattle.model.specs.Sizes.{cardSize, leastSession, leastLog}
+use Rattle.model.specs.Sizes.{cardSize, leastSession}
 use Rattle.laws.specs.BoolLaws.{and-left}
 use Rattle.model.specs.Numbers.{bytesOf}
 use Rattle.laws.specs.NumberLaws.{sets-append}
@@ -20,7 +20,7 @@ use Rattle.model.specs.Record.{fixedFields, dataLength, made}
 use Rattle.laws.specs.ReaderLaws.{next-within}
 use Rattle.laws.specs.RecordLaws.{decode-fields, decode-within}
 use Rattle.laws.specs.Sane.{Good, good-after}
-use Rattle.model.specs.Session.{cardOf, startOf, countOf, readFrom, all, kindOf, logged, after, entriesOf, endOf, initial}
+use Rattle.model.specs.Session.{cardOf, startOf, countOf, readFrom, all, logged, after, entriesOf, endOf, initial}
 use Rattle.model.specs.Single.{apply}
 use Rattle.model.specs.Volatile.{Volatile, powerUp}
 use Rattle.record.specs.DecodedRecord.{commandOf, recordOf, headOf}
