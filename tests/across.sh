@@ -28,7 +28,7 @@ try() { # EDIT
         cp -R "$top/crates/$crate" "$room/crates/"
         grep "^$crate:" "$top/crates.txt" >>"$room/crates.txt"
     done
-    for table in Cases Mistakes; do
+    for table in Cases Mistakes Attempts; do
         rm "$room/crates/model/specs/$table.antt"
         replace "$room/crates/model/specs/Lib.antt" "pub mod $table"$'\n' ''
     done

@@ -14,8 +14,8 @@ fail() {
 (cd "$top/second" && cargo build --release --offline --quiet --bin write-edges) || fail "the sessions' writer was not built"
 "$top/target/second/release/write-edges" "$work"
 
-edge() { # NAME, BYTES of the session; LINES, BYTES and END, the last line, of its listing
-    local session=$work/$1.session listing=$work/$1.txt sizes
+edge() { # NAME, BYTES of the session; LINES, BYTES and END.., the last lines, of its listing
+    local session=$work/$1.session listing=$work/$1.txt sizes end
     [ "$(wc -c <"$session")" -eq "$2" ] || fail "$1: the session has $(wc -c <"$session") bytes, not $2"
     "$top/simulate" "$session" >"$work/from-file" || fail "$1: the program ended with status $?"
     # shellcheck disable=SC2002
@@ -24,18 +24,19 @@ edge() { # NAME, BYTES of the session; LINES, BYTES and END, the last line, of i
     cmp "$work/from-pipe" "$listing" >&2 || fail "$1: the program and the second implementation differ on a pipe"
     sizes=$(wc -lc <"$listing" | awk '{ print $1, $2 }')
     [ "$sizes" = "$3 $4" ] || fail "$1: the listing has $sizes lines and bytes, not $3 $4"
-    [ "$(tail -n 1 "$listing")" = "$5" ] || fail "$1: the listing ends in '$(tail -n 1 "$listing")', not '$5'"
+    end=$(tail -n $(($# - 4)) "$listing")
+    [ "$end" = "$(printf '%s\n' "${@:5}")" ] || fail "$1: the listing ends in '$end', not '${*:5}'"
 }
 
 edge empty 0 1 10 'refused 1'
 edge below-least 2184 1 10 'refused 1'
-edge least 2185 1 9 'fuses 07'
+edge least 2185 2 49 'tries 8 8 8 8 8 8 8 8 8 8 8 8 8 8 8 8 8' 'fuses 07'
 # 4,096 records of all kinds, a log of 65,536 bytes; then the same with a byte, a record or a log byte more.
-edge greatest 65536 4097 184856 'fuses 00'
+edge greatest 65536 4098 184896 'tries 8 8 8 8 8 8 8 8 8 8 8 8 8 8 8 8 7' 'fuses 00'
 edge byte-more 65537 1 10 'refused 1'
 edge record-more 65536 1 10 'refused 4'
 edge log-byte-more 65536 1 11 'refused 10'
 # No listing is longer: a log byte gives most text, three bytes, within a response, so 245 records that fill the log by zone reads
 # give the most. A test of the second implementation tries every number of records.
-edge longest-listing 2920 246 189462 'fuses 07'
+edge longest-listing 2920 247 189502 'tries 8 8 8 8 8 8 8 8 8 8 8 8 8 8 8 8 8' 'fuses 07'
 echo "edges: the program and the second implementation agree at the edges and beyond them"

@@ -16,6 +16,26 @@ pub fn counter(password: Password) -> usize {
     }
 }
 
+/// Where the seventeen attempts counters lie: those of selectors 0 to 15, then AAC.
+pub fn counters() -> impl Iterator<Item = usize> {
+    (0..16).filter_map(Password::from_selector).map(counter).chain([AAC])
+}
+
+/// How many tries an attempts counter has left: its 1 bits.
+pub fn tries(counter: u8) -> u8 {
+    counter.count_ones() as u8
+}
+
+/// The tries left to the password or the authentication of a record, on the card that the record
+/// leaves; 0 for other records.
+pub fn tries_after(card: &Card, record: &Record) -> u8 {
+    match *record {
+        Record::VerifyPassword { password, .. } => tries(card[counter(password)]),
+        Record::BeginAuthentication => tries(card[AAC]),
+        _ => 0,
+    }
+}
+
 fn clear_lowest_one(byte: u8) -> u8 {
     byte & byte.wrapping_sub(1)
 }

@@ -7,13 +7,21 @@ use crate::record;
 use crate::refusal::Refusal;
 use crate::volatile::Volatile;
 
-/// Runs one record and answers the response length; `state` is the volatile state as four bytes.
+/// What an accepted command gives back beside the bytes it was lent.
+#[derive(Clone, Copy, Debug, PartialEq, Eq)]
+pub struct Reply {
+    pub length: usize,
+    /// Left to the password or the authentication that was tried, else 0.
+    pub tries: u8,
+}
+
+/// Runs one record; `state` is the volatile state as four bytes.
 pub fn command(
     card: &mut [u8],
     state: &mut [u8],
     record: &[u8],
     response: &mut [u8],
-) -> Result<usize, Refusal> {
+) -> Result<Reply, Refusal> {
     let card: &mut Card = card.try_into().map_err(|_| Refusal::CardLength)?;
     Stage::from_fuses(card[FUSES]).ok_or(Refusal::Fuses)?;
     let mut volatile = Volatile::from_bytes(state).ok_or(Refusal::State)?;
@@ -25,5 +33,5 @@ pub fn command(
     let response = response.get_mut(..answered).ok_or(Refusal::Space)?;
     card::execute(card, &mut volatile, &decoded, response);
     state.copy_from_slice(&volatile.to_bytes());
-    Ok(answered)
+    Ok(Reply { length: answered, tries: card::tries_after(card, &decoded) })
 }

@@ -56,8 +56,8 @@ fn most_records(length: usize) -> Author {
 ///
 /// A response byte takes one byte of the log and gives three of the text. An entry's header takes
 /// three of the log and gives at most eight of the text: four digits, a space, the kind, the line's
-/// end. So the text is longest when the log is full and has as few entries as can fill it: all but
-/// one read a whole zone.
+/// end. The last two lines have one length in every listing. So the text is longest when the log
+/// is full and has as few entries as can fill it: all but one read a whole zone.
 fn longest_listing() -> Author {
     let entries = LOG_SPACE - SHORTEST_LOG;
     let whole = ENTRY_HEADER + ZONE;

@@ -2,32 +2,29 @@
 
 use crate::{command, log, refusal::Refusal, session};
 
-fn pack(result: Result<usize, Refusal>) -> u64 {
-    match result {
-        Ok(length) => (length as u64) << 8,
-        Err(refusal) => u64::from(refusal.number()),
-    }
+/// The result of an accepted call, or the refusal's number alone.
+fn pack(result: Result<u64, Refusal>) -> u64 {
+    result.unwrap_or_else(|refusal| refusal.number().into())
 }
 
 /// Refusal + 2^8 · log length.
 pub fn at88sc1608_run(session: &[u8], log: &mut [u8]) -> u64 {
-    pack(session::run(session, log))
+    pack(session::run(session, log).map(|length| (length as u64) << 8))
 }
 
-/// Refusal + 2^8 · response length.
+/// Refusal + 2^8 · response length + 2^24 · tries left.
 pub fn at88sc1608_command(
     card: &mut [u8],
     state: &mut [u8],
     record: &[u8],
     response: &mut [u8],
 ) -> u64 {
-    pack(command::command(card, state, record, response))
+    let reply = command::command(card, state, record, response);
+    pack(reply.map(|reply| (reply.length as u64) << 8 | u64::from(reply.tries) << 24))
 }
 
 /// Refusal + 2^8 · response length + 2^40 · its offset in the log.
 pub fn at88sc1608_answer(log: &[u8], number: u64) -> u64 {
-    match log::find(log, number) {
-        Ok(response) => (response.len() as u64) << 8 | (response.start as u64) << 40,
-        Err(refusal) => u64::from(refusal.number()),
-    }
+    let found = log::find(log, number);
+    pack(found.map(|response| (response.len() as u64) << 8 | (response.start as u64) << 40))
 }

@@ -76,6 +76,17 @@ fn authentication() -> Author {
         .read(0, 7)
 }
 
+fn tries() -> Author {
+    Author::new(0)
+        .text(b"Tries left: 7 for write password 1, 8 for 2, 0 for read password 5, 6 for AAC.\n")
+        .wrong(1)
+        .times(3, |a| a.wrong(2))
+        .right(2)
+        .times(8, |a| a.wrong(13))
+        .right(13)
+        .times(2, |a| a.begin().verdict(0, b"badcrypt"))
+}
+
 fn refused() -> Author {
     Author::new(7)
         .text(b"The second record writes 17 bytes, so the whole session is refused with 7.\n")
@@ -111,6 +122,7 @@ pub fn all() -> Vec<(&'static str, Vec<u8>)> {
         ("personalised", personalised()),
         ("locked", locked()),
         ("authentication", authentication()),
+        ("tries", tries()),
         ("refused", refused()),
         ("wrap", wrap()),
     ]

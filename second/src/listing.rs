@@ -4,7 +4,8 @@ use std::fmt::Write;
 use std::path::Path;
 use std::{fs, io};
 
-use crate::layout::{LOG_SPACE, LONGEST_SESSION};
+use crate::card::{counters, tries};
+use crate::layout::{FUSES, LOG_SPACE, LONGEST_SESSION};
 use crate::log::Log;
 use crate::refusal::Refusal;
 use crate::session;
@@ -42,6 +43,11 @@ fn lines(log: &[u8]) -> Result<String, Refusal> {
         }
         text.push('\n');
     }
-    let _ = writeln!(text, "fuses {:02X}", opened.fuses());
+    let card = opened.card();
+    text.push_str("tries");
+    for at in counters() {
+        let _ = write!(text, " {}", tries(card[at]));
+    }
+    let _ = writeln!(text, "\nfuses {:02X}", card[FUSES]);
     Ok(text)
 }

@@ -85,8 +85,9 @@ impl<'a> Log<'a> {
         good.then_some(log).ok_or(Refusal::Log)
     }
 
-    pub fn fuses(&self) -> u8 {
-        self.bytes[self.card_at + FUSES]
+    /// The final card.
+    pub fn card(&self) -> &'a [u8] {
+        &self.bytes[self.card_at..self.card_at + CARD]
     }
 
     pub fn entries(&self) -> Entries<'a> {

@@ -112,6 +112,25 @@ fn aac() -> Author {
     })
 }
 
+/// The seventeen counters, of selectors 0 to 15 and AAC, end with the tries that `left` tells of
+/// their places.
+fn tries(left: fn(u8) -> usize) -> Author {
+    // What a counter starts with, by the tries that it ends with.
+    let start = [0x20, 0x41, 0x86, 0xA5, 0xA5, 0xD7, 0xF7, 0xFF, 0x12];
+    let mut author = Author::new(0).put_aac(start[left(16)]);
+    for selector in 0..16 {
+        let left = left(selector);
+        author = author.put_counter(selector, start[left]);
+        author = match left {
+            // $A5 has four already.
+            4 => author,
+            8 => author.right(selector),
+            _ => author.wrong(selector),
+        };
+    }
+    author.begin()
+}
+
 fn lost_authentication() -> Author {
     let granted = |a: Author| a.begin().verdict(1, b"12345678").read(0, 2);
     let author = Author::new(0).put_register(0, register(ATE, 0)).put_zone(0, 0, b"ok");
@@ -246,6 +265,9 @@ fn accepted() -> Vec<Author> {
     all.extend([0, 7, 8, 13].map(counters));
     all.extend([
         aac(),
+        // Counters that end alike in one of the two differ in the other.
+        tries(|place| usize::from(place % 9)),
+        tries(|place| usize::from(8 - place / 2)),
         lost_authentication(),
         blown_on_the_way(),
         wrong_keeps_none(),

@@ -1,5 +1,5 @@
 //! What the paper says in so many words: cases A–L, the edges, the printed example, each refusal
-//! by its number, and the mistakes that are easily made.
+//! by its number, the tries left, and the mistakes that are easily made.
 
 use std::collections::HashMap;
 
@@ -16,6 +16,14 @@ use crate::session::{check, run};
 use crate::{edges, encoded, examples, gen, log, samples};
 
 const NONE: [u8; 4] = [0, 0, 0, 0];
+
+/// The configuration addresses of the seventeen counters, in the order of the listing.
+#[rustfmt::skip]
+const COUNTERS: [usize; 17] = [
+    0x40, 0x48, 0x50, 0x58, 0x60, 0x68, 0x70, 0x78,
+    0x44, 0x4C, 0x54, 0x5C, 0x64, 0x6C, 0x74, 0x7C,
+    0x20,
+];
 
 /// A card on the table: its bytes and its volatile state.
 struct Table {
@@ -49,15 +57,24 @@ impl Table {
         self
     }
 
-    fn run(&mut self, record: &[u8]) -> Vec<u8> {
+    /// The response, and the tries left.
+    fn reply(&mut self, record: &[u8]) -> (Vec<u8>, u8) {
         let mut space = [0xEE; 256];
-        let n = command(&mut self.card, &mut self.state, record, &mut space).unwrap();
-        assert!(space[n..].iter().all(|&b| b == 0xEE));
-        space[..n].to_vec()
+        let reply = command(&mut self.card, &mut self.state, record, &mut space).unwrap();
+        assert!(space[reply.length..].iter().all(|&b| b == 0xEE));
+        (space[..reply.length].to_vec(), reply.tries)
     }
 
-    fn verify(&mut self, selector: u8, password: [u8; 3]) {
-        self.run(&[&[10, selector], &password[..]].concat());
+    fn run(&mut self, record: &[u8]) -> Vec<u8> {
+        self.reply(record).0
+    }
+
+    fn tries(&mut self, record: &[u8]) -> u8 {
+        self.reply(record).1
+    }
+
+    fn verify(&mut self, selector: u8, password: [u8; 3]) -> u8 {
+        self.tries(&[&[10, selector], &password[..]].concat())
     }
 
     /// Whether a write to the selected zone is stored.
@@ -74,13 +91,14 @@ impl Table {
     }
 }
 
-/// A refused single command leaves everything as it was.
+/// A refused single command gives its number alone and leaves everything as it was.
 fn refused(card: &[u8], state: &[u8], record: &[u8], space: usize) -> u8 {
     let (mut c, mut s, mut r) = (card.to_vec(), state.to_vec(), vec![0xEE; space]);
-    let refusal = command(&mut c, &mut s, record, &mut r).unwrap_err();
+    let result = encoded::at88sc1608_command(&mut c, &mut s, record, &mut r);
+    assert!((1..=14).contains(&result), "{result:#X}");
     assert_eq!((&c[..], &s[..]), (card, state));
     assert!(r.iter().all(|&b| b == 0xEE));
-    refusal.number()
+    result as u8
 }
 
 fn decoded(record: &[u8]) -> u8 {
@@ -211,6 +229,109 @@ fn authentication() {
     t.card[AAC] = 0x80;
     t.run(&[11]);
     assert_eq!((t.card[AAC], t.state[3]), (0, 1));
+}
+
+/// One counter as given, two tries in all others.
+fn one_counter(place: usize, value: u8) -> Table {
+    let others = COUNTERS.into_iter().fold(Table::new(0), |t, at| t.set(CONFIGURATION + at, 0x12));
+    others.set(CONFIGURATION + COUNTERS[place], value)
+}
+
+#[test]
+fn tries_after_a_password() {
+    #[rustfmt::skip]
+    let cases = [
+        (0xFF, true, 0xFF, 8), (0xA5, true, 0xFF, 8), (0x01, true, 0xFF, 8), (0x00, true, 0x00, 0),
+        (0xFF, false, 0xFE, 7), (0xFE, false, 0xFC, 6), (0xF7, false, 0xF6, 6),
+        (0xA5, false, 0xA4, 3), (0xA4, false, 0xA0, 2), (0x81, false, 0x80, 1),
+        (0x80, false, 0x00, 0), (0x01, false, 0x00, 0), (0x00, false, 0x00, 0),
+    ];
+    for selector in 0..16 {
+        for (before, right, after, tries) in cases {
+            let mut t = one_counter(selector.into(), before);
+            let bytes = if right { password(selector) } else { [1, 2, 3] };
+            assert_eq!(t.verify(selector, bytes), tries, "{selector}: {before:02X} {right}");
+            assert_eq!(t.card[CONFIGURATION + COUNTERS[usize::from(selector)]], after);
+        }
+    }
+}
+
+#[test]
+fn tries_after_begun_authentication() {
+    #[rustfmt::skip]
+    let cases = [
+        (0xFF, 0xFE, 7), (0xFE, 0xFC, 6), (0xF7, 0xF6, 6), (0xA5, 0xA4, 3), (0xA4, 0xA0, 2),
+        (0x81, 0x80, 1), (0x80, 0x00, 0), (0x01, 0x00, 0), (0x00, 0x00, 0),
+    ];
+    for (before, after, tries) in cases {
+        for authentication in 0..3 {
+            for verdict in [b"\x0C\x00rejected", b"\x0C\x01accepted"] {
+                let mut t = one_counter(16, before);
+                t.state[3] = authentication;
+                assert_eq!(t.tries(&[11]), tries, "{before:02X} {authentication}");
+                assert_eq!(t.card[CONFIGURATION + 0x20], after);
+                assert_eq!(t.tries(verdict), 0);
+            }
+        }
+    }
+}
+
+#[test]
+fn no_tries_after_other_commands() {
+    let records: [&[u8]; 13] = [
+        &[1],
+        &[2],
+        &[3, 5],
+        &[4, 0, 0],
+        &[5, 0, 1, 0xA5],
+        &[6, 0x20, 1],
+        &[6, 0x40, 0x40],
+        &[7, 0x20, 1, 0xA5],
+        &[7, 0x40, 1, 0xA5],
+        &[8],
+        &[9],
+        b"\x0C\x00rejected",
+        b"\x0C\x01accepted",
+    ];
+    for record in records {
+        for fuses in [7, 6, 4, 0] {
+            for authentication in 0..3 {
+                let mut t = Table::new(fuses).active(7);
+                t.state[3] = authentication;
+                assert_eq!(t.tries(record), 0, "{record:02X?}");
+            }
+        }
+    }
+}
+
+#[test]
+fn refused_presentations_have_their_number_alone() {
+    let card = fresh_card(0);
+    for record in [&[10, 4, 0xA4, 0x5A, 0x3C][..], &[10, 12, 1, 2, 3], &[11]] {
+        assert_eq!(refused(&card[1..], &NONE, record, 0), 11);
+        assert_eq!(refused(&fresh_card(5), &NONE, record, 0), 5);
+        assert_eq!(refused(&card, &[8, 0, 0, 0], record, 0), 12);
+        assert_eq!(refused(&card, &[0, 1, 16, 0], record, 0), 12);
+        assert_eq!(refused(&card, &NONE, &[record, &[0]].concat(), 0), 9);
+    }
+    assert_eq!(refused(&card, &NONE, &[10, 16, 1, 2, 3], 0), 7);
+    for cut in [&[10][..], &[10, 4], &[10, 4, 0xA4, 0x5A]] {
+        assert_eq!(refused(&card, &NONE, cut, 0), 8);
+    }
+}
+
+#[test]
+fn encoded_commands() {
+    let result = |record: &[u8]| {
+        encoded::at88sc1608_command(&mut fresh_card(7), &mut [0; 4], record, &mut [0; 256])
+    };
+    assert_eq!(result(&[1]), 0);
+    assert_eq!(result(&[2]), 0x400);
+    assert_eq!(result(&[4, 0, 0]), 0x1_0000);
+    assert_eq!(result(&[10, 4, 0xA4, 0x5A, 0x3C]), 0x800_0000);
+    assert_eq!(result(&[10, 12, 1, 2, 3]), 0x700_0000);
+    assert_eq!(result(&[11]), 0x700_0000);
+    assert_eq!(result(&[11, 11]), 9);
 }
 
 #[test]
@@ -370,8 +491,8 @@ fn session_and_single_commands_agree() {
             reader.next_record().unwrap();
             let mut space = [0; 256];
             let record = &session[from..reader.at()];
-            let length = command(&mut card, &mut state, record, &mut space).unwrap();
-            assert_eq!(log::answer(&log[..n], k.into()), Ok(&space[..length]));
+            let reply = command(&mut card, &mut state, record, &mut space).unwrap();
+            assert_eq!(log::answer(&log[..n], k.into()), Ok(&space[..reply.length]));
         }
         assert_eq!(card, log[n - SHORTEST_LOG..n - TRAILER]);
     }
@@ -379,12 +500,55 @@ fn session_and_single_commands_agree() {
 
 #[test]
 fn printed_example_and_listings() {
+    let full = "tries 8 8 8 8 8 8 8 8 8 8 8 8 8 8 8 8 8";
     let printed = examples::printed().session();
-    assert_eq!(listing(&printed), "0 08 06\n1 06 A5 5A\nfuses 06\n");
+    assert_eq!(listing(&printed), format!("0 08 06\n1 06 A5 5A\n{full}\nfuses 06\n"));
     assert_eq!(listing(&[]), "refused 1\n");
     assert_eq!(listing(&vec![0; LONGEST_SESSION + 1]), "refused 1\n");
     let power = Author::new(0).power().session();
-    assert_eq!(listing(&power), "0 01\nfuses 00\n");
+    assert_eq!(listing(&power), format!("0 01\n{full}\nfuses 00\n"));
+    let none = Author::new(4).session();
+    assert_eq!(listing(&none), format!("{full}\nfuses 04\n"));
+    let late = Author::new(0).wrong(3).record(&[13]).session();
+    assert_eq!(listing(&late), "refused 6\n");
+}
+
+#[test]
+fn listing_tells_the_tries_left() {
+    // One counter at a time, so an exchange of any two would show.
+    for place in 0..17 {
+        let session = Author::new(0).put_configuration(COUNTERS[place], &[0xA5]).session();
+        let mut tries = ["8"; 17];
+        tries[place] = "4";
+        assert_eq!(listing(&session), format!("tries {}\nfuses 00\n", tries.join(" ")));
+    }
+    let counters = [
+        0x00, 0x10, 0x81, 0xA4, 0xA5, 0x7A, 0xDE, 0xBF, 0xFF, 0x24, 0x3E, 0xF7, 0x02, 0xF9, 0x68,
+        0x9D, 0x3C,
+    ];
+    let author = COUNTERS
+        .into_iter()
+        .zip(counters)
+        .fold(Author::new(6), |author, (at, byte)| author.put_configuration(at, &[byte]));
+    let session = author.clone().read_fuses().session();
+    assert_eq!(listing(&session), "0 08 06\ntries 0 1 2 3 4 5 6 7 8 2 5 7 1 6 3 5 4\nfuses 06\n");
+    // The final card counts: locked, right, wrong, begun.
+    let session = author.right(0).right(1).wrong(2).wrong(12).begin().session();
+    assert_eq!(
+        listing(&session),
+        "0 0A\n1 0A\n2 0A\n3 0A\n4 0B\ntries 0 8 1 3 4 5 6 7 8 2 5 7 0 6 3 5 3\nfuses 06\n"
+    );
+}
+
+#[test]
+fn samples_tell_the_counters_apart() {
+    let listings: Vec<String> = samples::all().iter().map(|s| listing(s)).collect();
+    // A refused session has one line.
+    let tries = listings.iter().filter_map(|listing| listing.lines().rev().nth(1));
+    let tries: Vec<Vec<&str>> = tries.map(|line| line.split(' ').skip(1).collect()).collect();
+    for (one, other) in (0..17).flat_map(|one| (0..one).map(move |other| (one, other))) {
+        assert!(tries.iter().any(|line| line[one] != line[other]), "{one} and {other}");
+    }
 }
 
 #[test]
@@ -425,6 +589,9 @@ fn edge_sessions_have_their_sizes() {
     }
 }
 
+/// The end of a listing; a counter has at most 8 tries, so each number has one digit.
+const ENDING: &str = "tries 8 8 8 8 8 8 8 8 8 8 8 8 8 8 8 8 8\nfuses 07\n";
+
 /// A listing's length depends on how many records there are and how many bytes they answer in all,
 /// so every number of records is tried with the most that it can answer.
 #[test]
@@ -434,7 +601,7 @@ fn no_listing_is_longer() {
         let room = LOG_SPACE - SHORTEST_LOG - ENTRY_HEADER * count;
         let answered = room.min(ZONE * count);
         let lines = digits + " 04\n".len() * count + " FF".len() * answered;
-        longest = longest.max(lines + "fuses 07\n".len());
+        longest = longest.max(lines + ENDING.len());
         digits += count.to_string().len();
     }
     assert_eq!(listing(&edge_sessions()["longest-listing"]).len(), longest);

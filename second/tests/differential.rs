@@ -110,27 +110,40 @@ fn every_configuration_byte_in_every_state() {
     }
 }
 
+/// The result of an accepted command that has no response.
+fn tries(left: u32) -> u64 {
+    u64::from(left) << 24
+}
+
 #[test]
 fn every_counter_value() {
-    for value in 0..=255 {
+    for value in 0..=255u8 {
+        let one_fewer = value.count_ones().saturating_sub(1);
         for selector in 0..16 {
             let at = counter(selector);
             for wrong in 0..4 {
                 let mut card = marked_card(STAGES[usize::from(value & 3)]);
                 card[at] = value;
                 let mut record = [10, selector, card[at + 1], card[at + 2], card[at + 3]];
+                let mut left = if value == 0 { 0 } else { 8 };
                 if wrong < 3 {
                     record[2 + wrong] ^= 0x10;
+                    left = one_fewer;
                 }
                 let mut state = [5, 1, (selector + 3) % 16, value % 3];
-                both::command(FIXED, &mut card, &mut state, &record, 0);
+                let result = both::command(FIXED, &mut card, &mut state, &record, 0);
+                assert_eq!(result, tries(left), "selector {selector}, counter {value:02X}");
             }
         }
         for state in states(6) {
-            for record in [&b"\x0B"[..], b"\x0C\x00ABCDEFGH", b"\x0C\x01ABCDEFGH"] {
+            for verdict in [b"\x0C\x00ABCDEFGH", b"\x0C\x01ABCDEFGH"] {
                 let mut card = marked_card(STAGES[usize::from(value & 3)]);
                 card[AAC] = value;
-                both::command(FIXED, &mut card, &mut state.clone(), record, 0);
+                let (mut begun, mut then) = (card.clone(), state);
+                assert_eq!(both::command(FIXED, &mut card, &mut state.clone(), verdict, 0), 0);
+                let result = both::command(FIXED, &mut begun, &mut then, &[11], 0);
+                assert_eq!(result, tries(one_fewer), "AAC {value:02X}");
+                assert_eq!(both::command(FIXED, &mut begun, &mut then, verdict, 0), 0);
             }
         }
     }
@@ -200,7 +213,8 @@ fn every_field_and_length_of_a_record() {
 #[test]
 fn every_byte_of_a_callers_mistake() {
     // Each caller's fault alone, then together with all that comes later in the order.
-    let records: [&[u8]; 5] = [&[8], &[2], &[0], &[8, 8], &[]];
+    let right = [10, 3, 0xA3, 0x5A, 0x3C];
+    let records: [&[u8]; 7] = [&[8], &[2], &[0], &[8, 8], &[], &right, &[11]];
     for record in records {
         for space in [0, 4] {
             for (at, value) in (0..4).flat_map(|at| (0..=255).map(move |value| (at, value))) {
@@ -255,12 +269,23 @@ fn one_call(rng: &mut Rng, seed: &str, card: &mut [u8], state: &mut [u8; 4], met
             if result & 0xFF == 0 {
                 met.note(&format!("kind {} at F={}", record[0], before[FUSES]));
                 reached(met, &record, &before, was, card, *state);
+                if let [kind @ (10 | 11), ..] = record[..] {
+                    met.note(&format!("{} tries left by kind {kind}", result >> 24));
+                }
             }
             result
         }
     };
     met.note("commands");
     met.note(&format!("refusal {}", result & 0xFF));
+    if let [kind @ (10 | 11), ..] = record[..] {
+        met.note(&format!("refusal {} of kind {kind}", result & 0xFF));
+    }
+}
+
+/// Whether a counter has a 0 bit above a 1 bit, as $A5 has; tries alone never lead there from $FF.
+fn has_gap(counter: u8) -> bool {
+    counter.leading_ones() != counter.count_ones()
 }
 
 /// Notes the deep states that a call has reached.
@@ -297,7 +322,9 @@ fn reached(met: &mut Met, record: &[u8], before: &[u8], was: [u8; 4], card: &[u8
                 (_, false) => "wrong password",
             });
             met.note_if("last try lost", before[at] != 0 && card[at] == 0);
+            met.note_if("wrong password, counter with a gap", !right && has_gap(before[at]));
         }
+        11 => met.note_if("begun, counter with a gap", has_gap(before[AAC])),
         _ => {}
     }
     for (name, from, to) in [("granted", 1, 2), ("rejected", 1, 0), ("lost", 2, 0), ("again", 2, 1)]
@@ -337,9 +364,21 @@ fn lists_of_commands() {
         "zone write stored", "zone write kept out", "zone write wrapped",
         "right password", "wrong password", "last try lost", "locked, right", "locked, wrong",
         "granted", "rejected", "lost", "again",
+        "wrong password, counter with a gap", "begun, counter with a gap",
     ];
     for what in deep {
         met.require(what, 200);
+    }
+    // Only a right password leaves all eight.
+    for (kind, most) in [(10, 8), (11, 7)] {
+        for left in 0..=most {
+            met.require(&format!("{left} tries left by kind {kind}"), 200);
+        }
+    }
+    for (kind, refusals) in [(10, &[5, 7, 8, 9, 11, 12][..]), (11, &[5, 9, 11, 12])] {
+        for refusal in refusals {
+            met.require(&format!("refusal {refusal} of kind {kind}"), 50);
+        }
     }
 }
 

@@ -19,8 +19,9 @@ pub record Ready (c : List ℕ) (s : Volatile) (k : Command) (bytes : List ℕ) 
   pub within : end ≤ length bytes
   pub room : answerLength at88sc1608 k ≤ length space
 
--- the card, the state and the response space after a command
-pub record Carried (c : List ℕ) (s : Volatile) (k : Command) (space : List ℕ) (c′ : List ℕ) (s′ : Volatile) (space′ : List ℕ) : Type 0 where
+-- the card, the state, the tries handed out and the response space after a command
+pub record Carried (c : List ℕ) (s : Volatile) (k : Command) (space : List ℕ) (c′ : List ℕ) (s′ : Volatile) (tries : ℕ) (space′ : List ℕ) : Type 0 where
   pub card : c′ ≡ apply c s k .card
   pub state : s′ ≡ apply c s k .report .state
+  pub handed : tries ≡ apply c s k .report .tries
   pub answer : space′ ≡ apply c s k .report .answer ++ drop (answerLength at88sc1608 k) space

@@ -21,6 +21,8 @@ use security::authentication::begin_authentication;
 use security::authentication::verify_authentication;
 use security::fuse::write_fuses;
 use security::password::verify_password;
+use security::report::Report;
+use security::report::reporting;
 use sizes::FUSES;
 
 // Read fuses: the fuse byte alone.
@@ -39,38 +41,38 @@ pub fn carry_out(
     record: &[u8],
     end: usize,
     response: &mut [u8],
-) -> Volatile
+) -> Report
     requires { ⌜ Ready (now card) (volatileOf state) (commandOf (now «record») end kind) (now «record») end (now response) ⌝ }
     ensures { λ r. ⌜ Carried (now (card .entry)) (volatileOf state) (commandOf (now («record» .entry)) end kind) (now (response .entry))
-        (now (card .exit)) (volatileOf r) (now (response .exit)) ⌝ }
+        (now (card .exit)) (volatileOf (r .state)) (r .tries) (now (response .exit)) ⌝ }
 {
     match kind {
-        Record::PowerCycle => power_up(),
-        Record::Reset => answer_to_reset(card, state, response),
-        Record::Select(zone) => selecting(state, zone),
+        Record::PowerCycle => reporting(power_up()),
+        Record::Reset => reporting(answer_to_reset(card, state, response)),
+        Record::Select(zone) => reporting(selecting(state, zone)),
         Record::ReadZone(address, count) => {
             read_zone(card, state, address, count as usize, response);
-            state
+            reporting(state)
         }
         Record::WriteZone(address) => {
             write_zone(card, state, address, &record[3..end]);
-            state
+            reporting(state)
         }
         Record::ReadConfiguration(address, count) => {
             read_configuration(card, state, address, count as usize, response);
-            state
+            reporting(state)
         }
         Record::WriteConfiguration(address) => {
             write_configuration(card, state, address, &record[3..end]);
-            state
+            reporting(state)
         }
         Record::ReadFuses => {
             read_fuses(card, response);
-            state
+            reporting(state)
         }
         Record::WriteFuses => {
             write_fuses(card, state);
-            state
+            reporting(state)
         }
         Record::VerifyPassword(selector) => verify_password(card, state, selector, &record[2..end]),
         Record::BeginAuthentication => begin_authentication(card, state),

@@ -46,11 +46,11 @@ module _ (c : List ℕ) (s : Volatile) (bytes space : List ℕ) where
       pub call-known : h .kind ≤ 12
       call-known = head-known bytes k n (a .decodes) h head
 
-      pub call-carried : (m : ℕ) (c′ : List ℕ) (s′ : Volatile) (space′ : List ℕ) → m ≡ answerLength at88sc1608 (made (h .kind) 0 (h .n) [])
-          → Carried c s k space c′ s′ space′
-          → record { card = c′; reply = record { refusal = 0; size = m; state = s′; space = space′ } } ≡ command c s (calling bytes space)
+      pub call-carried : (m : ℕ) (c′ : List ℕ) (s′ : Volatile) (tries : ℕ) (space′ : List ℕ) → m ≡ answerLength at88sc1608 (made (h .kind) 0 (h .n) [])
+          → Carried c s k space c′ s′ tries space′
+          → record { card = c′; reply = record { refusal = 0; size = m; state = s′; tries = tries; space = space′ } } ≡ command c s (calling bytes space)
       unfolding calls.command
-      call-carried m c′ s′ space′ q w =
+      call-carried m c′ s′ tries space′ q w =
           let l : length (apply c s k .report .answer) ≡ answerLength at88sc1608 k = answer-length at88sc1608 c s k in
           rw (← e)
           (λ i. record {
@@ -59,6 +59,7 @@ module _ (c : List ℕ) (s : Volatile) (bytes space : List ℕ) where
               refusal = 0;
               size = (q ∙ head-answer bytes k n (a .decodes) h head ∙ sym l) i;
               state = w .state i;
+              tries = w .handed i;
               space = (w .answer ∙ ap (λ (j : ℕ). apply c s k .report .answer ++ drop j space) (sym l)) i;
             };
           })

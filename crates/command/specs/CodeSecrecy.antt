@@ -57,7 +57,7 @@ given-injective : (g h : Given) → replyOf g ≡ replyOf h → g ≡ h
 given-injective g h e =
     let o = outcome-injective (g .reply .outcome) (h .reply .outcome) (λ i. e i .refusal) in
     let v = volatile-injective (g .reply .state) (h .reply .state) (λ i. e i .state) in
-    λ i. record { reply = record { outcome = o i; size = e i .size; state = v i }; space = e i .space }
+    λ i. record { reply = record { outcome = o i; size = e i .size; state = v i; tries = e i .tries }; space = e i .space }
 
 all-injective : (gs hs : List Given) → map replyOf gs ≡ map replyOf hs → gs ≡ hs
 all-injective [] [] e = refl

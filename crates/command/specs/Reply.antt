@@ -12,5 +12,5 @@ abbrev pub calledOf : Reply → List ℕ → List ℕ → call.Called model.Vola
 calledOf r card space =
     record {
       card = card;
-      reply = record { refusal = outcomeNumber (r .outcome); size = r .size; state = volatileOf (r .state); space = space };
+      reply = record { refusal = outcomeNumber (r .outcome); size = r .size; state = volatileOf (r .state); tries = r .tries; space = space };
     }

@@ -22,7 +22,11 @@ abbrev volatileFrom : model.Volatile → Volatile
 volatileFrom v = record { zone = record { 0 = v .zone }; active = activeFrom (v .active); authentication = authenticationFrom (v .authentication) }
 
 abbrev givenFrom : calls.Reply model.Volatile → Given
-givenFrom r = record { reply = record { outcome = outcomeFrom (r .refusal); size = r .size; state = volatileFrom (r .state) }; space = r .space }
+givenFrom r =
+    record {
+      reply = record { outcome = outcomeFrom (r .refusal); size = r .size; state = volatileFrom (r .state); tries = r .tries };
+      space = r .space;
+    }
 
 active-there : (a : model.Active) → activeOf (activeFrom a) ≡ a
 active-there model.none = refl
@@ -46,7 +50,13 @@ call-given c s x =
     let v = volatile-there (command c s x .reply .state) in
     λ i. record {
       card = command c s x .card;
-      reply = record { refusal = o i; size = command c s x .reply .size; state = v i; space = command c s x .reply .space };
+      reply = record {
+        refusal = o i;
+        size = command c s x .reply .size;
+        state = v i;
+        tries = command c s x .reply .tries;
+        space = command c s x .reply .space;
+      };
     }
 
 pub run-exists : (xs : List Call) (c : List ℕ) (s : Volatile) → (gs : List Given) × (e : List ℕ) × Run xs c s gs e

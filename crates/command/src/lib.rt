@@ -14,11 +14,12 @@ use record::refusal::Outcome;
 
 pub mod admit;
 
-// What a call gives back beside the response space.
+// What a call gives back beside the response space: the tries are those left of the counter that the command used, 0 if it used none.
 pub struct Reply {
     pub outcome: Outcome,
     pub size: usize,
     pub state: Volatile,
+    pub tries: u8,
 }
 
 // One command on a card. A refusal hands the state back and changes nothing.
@@ -32,15 +33,18 @@ pub fn command(card: &mut [u8], state: Volatile, record: &[u8], response: &mut [
             outcome: Outcome::Refused(why),
             size: 0,
             state,
+            tries: 0,
         },
         Decoded::Whole(kind, end) => {
             let head = head_of(record);
             let length = answer_length(head.kind, head.n) as usize;
-            let after = carry_out(card, state, kind, record, end, response);
+            let report = carry_out(card, state, kind, record, end, response);
+            let after = report.state;
             Reply {
                 outcome: Outcome::Accepted,
                 size: length,
                 state: after,
+                tries: report.tries,
             }
         }
     }

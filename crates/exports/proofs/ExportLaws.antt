@@ -14,7 +14,7 @@ use Rattle.model.specs.Refusal.{cardLength, fuseByte, stateOutOfRange}
 use Rattle.model.specs.Session.{Ran, run}
 use Rattle.model.specs.Single.{isFuseByte, checkOf, check, command}
 use Rattle.model.specs.Volatile.{Volatile}
-use Rattle.exports.specs.Exports.{result, runCall, toldRun, exportedRun, commandCall, toldCommand, exportedCommand}
+use Rattle.exports.specs.Exports.{result, runCall, toldRun, exportedRun, commandResult, commandCall, toldCommand, exportedCommand}
 use Rattle.exports.specs.Lengths.{response-small, run-small}
 use Rattle.exports.specs.StateBytes.{isState, stateOf, stateAfter}
 use Rattle.exports.specs.StateLaws.{state-long, state-range}
@@ -61,6 +61,7 @@ module _ (c b sent space : List ℕ) (v : Volatile) (read : v ≡ stateOf b) (x 
       let s = response-small c v (calling sent space) h in
       omega arith
 
-  pub command-told : (r : ℕ) (b′ : List ℕ) → r ≡ result (x .reply .refusal) (x .reply .size) → b′ ≡ stateAfter (x .reply .refusal) (x .reply .state) b
+  pub command-told : (r : ℕ) (b′ : List ℕ) → r ≡ commandResult (x .reply .refusal) (x .reply .size) (x .reply .tries)
+      → b′ ≡ stateAfter (x .reply .refusal) (x .reply .state) b
       → commandCall r (x .card) b′ (x .reply .space) ≡ exportedCommand c b sent space
   command-told r b′ e w = (λ i. commandCall (e i) (x .card) (w i) (x .reply .space)) ∙ ap (toldCommand b) same

@@ -1,13 +1,14 @@
 -- Laws of at88sc1608_command: bytes that stand for no state are refused with 12, and the bytes at exit stand for the state after
--- the call, so calls one after the other are those of the model.
-use Prim.Native.Nat.{ℕ, zero, suc}
+-- the call, so calls one after the other are those of the model. What the result is made of can be read off it.
+use Prim.Native.Nat.{ℕ, zero, suc, _/_, _%_, _^_}
 use mathlib.Core.Bool.{true, false}
 use mathlib.Core.List.{List}
 use mathlib.Core.Path.{_≡_, refl}
+use native.Mathlib.Omega.{arith}
 use borrow.Author.Tests.{eq-eqb}
 use lib.ListN.{length}
 use Rattle.model.specs.Sizes.{cardSize, fuseAt}
-use Rattle.model.specs.Lists.{at}
+use Rattle.model.specs.Lists.{at, Bytes}
 use Rattle.model.specs.Call.{Call, Decoded, refused, whole, calling, refusing}
 use Rattle.model.specs.Call as calls
 use Rattle.laws.specs.CallLaws.{admitted}
@@ -16,8 +17,10 @@ use Rattle.model.specs.Record.{decode}
 use Rattle.laws.specs.RecordLaws.{decode-fields}
 use Rattle.model.specs.Refusal.{stateOutOfRange}
 use Rattle.laws.specs.Sane.{good-check, good-after}
+use Rattle.laws.specs.SingleLaws.{refusal-small}
 use Rattle.model.specs.Single.{isFuseByte, checkOf, check, apply, command}
 use Rattle.exports.specs.Exports.{exportedCommand}
+use Rattle.exports.specs.Lengths.{response-small}
 use Rattle.exports.specs.StateBytes.{isState, stateOf, stateAfter}
 use Rattle.exports.specs.StateLaws.{state-read, state-range}
 
@@ -26,6 +29,15 @@ pub unread-refused : (c b : List ℕ) (x : Call) → length c ≡ cardSize → i
     → command c (stateOf b) x ≡ record { card = c; reply = refusing stateOutOfRange (stateOf b) (x .space) }
 unfolding checkOf calls.admission calls.command
 unread-refused c b x l f e = rw (eq-eqb (length c) cardSize l, f, state-range b, e)
+
+-- the refusal, the response's length and the tries left are the first 8 bits of the result, the next 16, and the rest
+pub result-read : (c b sent space : List ℕ) → Bytes sent
+    → (let r = command c (stateOf b) (calling sent space) .reply in let n = exportedCommand c b sent space .result in
+    (n % 2 ^ 8 ≡ r .refusal) × (n / 2 ^ 8 % 2 ^ 16 ≡ r .size) × (n / 2 ^ 24 ≡ r .tries))
+result-read c b sent space bytes =
+    let p = refusal-small c (stateOf b) (calling sent space) in
+    let q = response-small c (stateOf b) (calling sent space) bytes in
+    (omega arith, omega arith, omega arith)
 
 -- the bytes at exit stand for the state after the call
 pub state-told : (c b sent space : List ℕ) → stateOf (exportedCommand c b sent space .state) ≡ command c (stateOf b) (calling sent space) .reply .state

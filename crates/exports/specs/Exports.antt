@@ -32,6 +32,10 @@ exportedRun session log = toldRun (run session log)
 
 -- ---- at88sc1608_command
 
+-- the refusal's number, or 0, 2^8 times the response's length and 2^24 times the tries left
+abbrev pub commandResult : ℕ → ℕ → ℕ → ℕ
+commandResult refusal n tries = refusal + 2 ^ 8 * n + 2 ^ 24 * tries
+
 -- the result, and the card, the state's bytes and the response space at exit
 pub record CommandCall : Type 0 where
   pub result : ℕ
@@ -45,7 +49,8 @@ commandCall r card state response = record { result = r; card = card; state = st
 -- what the model's call tells of them, for the state's bytes at entry
 abbrev pub toldCommand : List ℕ → Called Volatile → CommandCall
 toldCommand state x =
-    commandCall (result (x .reply .refusal) (x .reply .size)) (x .card) (stateAfter (x .reply .refusal) (x .reply .state) state) (x .reply .space)
+    commandCall (commandResult (x .reply .refusal) (x .reply .size) (x .reply .tries)) (x .card)
+    (stateAfter (x .reply .refusal) (x .reply .state) state) (x .reply .space)
 
 -- of a card, a state's bytes, a record and a response space
 abbrev pub exportedCommand : List ℕ → List ℕ → List ℕ → List ℕ → CommandCall

@@ -3,6 +3,7 @@ ghost use mathlib.Core.Path.{_≡_};
 ghost use Rattle.model.specs.Log as model;
 ghost use Rattle.exports.specs.Exports.{runCall, exportedRun, commandCall, exportedCommand, exportedAnswer};
 use crate::result::answer_number;
+use crate::result::command_number;
 use crate::result::result_number;
 use crate::state::read_state;
 use crate::state::write_state;
@@ -25,7 +26,7 @@ pub extern "C" fn at88sc1608_run(session: &[u8], log: &mut [u8]) -> u64
     result_number(outcome, ran.size)
 }
 
-// One command: the refusal's number, or 0, and 2^8 times the response's length.
+// One command: the refusal's number, or 0, 2^8 times the response's length and 2^24 times the tries left.
 #[no_mangle]
 pub extern "C" fn at88sc1608_command(
     card: &mut [u8],
@@ -41,7 +42,7 @@ pub extern "C" fn at88sc1608_command(
     let outcome = reply.outcome;
     let after = reply.state;
     write_state(state, outcome, after);
-    result_number(outcome, reply.size)
+    command_number(outcome, reply.size, reply.tries)
 }
 
 // An answer of a log, from 0: the refusal's number, or 0, 2^8 times its length and 2^40 times where it begins.

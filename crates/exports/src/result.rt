@@ -4,7 +4,7 @@ ghost use Prim.Native.Nat.{_*_, _≤_, _^_};
 ghost use Rattle.model.specs.Sizes.{mostRecords};
 ghost use Rattle.model.specs.Log.{located};
 ghost use Rattle.record.specs.RefusalNumber.{outcomeNumber};
-ghost use Rattle.exports.specs.Exports.{result, exportedAnswer};
+ghost use Rattle.exports.specs.Exports.{result, commandResult, exportedAnswer};
 use record::refusal::Outcome;
 use record::refusal::outcome_number;
 
@@ -16,6 +16,17 @@ pub fn result_number(outcome: Outcome, length: usize) -> u64
     let refusal = outcome_number(outcome) as u64;
     let long = length as u64;
     refusal + 256 * long
+}
+
+// helper: the refusal's number, or 0, with 2^8 times a length and 2^24 times the tries left.
+pub fn command_number(outcome: Outcome, length: usize, tries: u8) -> u64
+    requires { ⌜ length ≤ 2 ^ 32 ⌝ }
+    ensures { λ r. ⌜ r ≡ commandResult (outcomeNumber outcome) length tries ⌝ }
+{
+    let refusal = outcome_number(outcome) as u64;
+    let long = length as u64;
+    let left = tries as u64;
+    refusal + 16777216 * left + 256 * long
 }
 
 // helper: 2^8 times an answer's length and 2^40 times where it begins.

@@ -1,11 +1,13 @@
 -- What a command can do, for any device, told once over all twelve kinds: which bytes of the card it may change and why, and
 -- how the volatile state may move.
-use Prim.Native.Nat.{ℕ, suc}
+use Prim.Native.Nat.{ℕ, suc, _<_}
 use mathlib.Core.Bool.{Bool, true, false, cond}
 use mathlib.Core.List.{List, [], _∷_}
-use mathlib.Core.Path.{_≡_, refl}
+use mathlib.Core.Path.{_≡_, refl, sym, ap, _∙_}
+use borrow.Author.Tests.{eqb-true}
 use lib.Dec.{eqb}
 use lib.ListN.{length, set}
+use lib.Seq.{getD-set-same}
 use Rattle.model.specs.Lists.{at, sameList, stores}
 use Rattle.laws.specs.ListLaws.{length-tab}
 use Rattle.model.specs.Volatile.{Volatile, none, selector, idle, begun, granted, powerUp, isBegun, selecting, activating, authenticating}
@@ -43,6 +45,21 @@ answerLength D writeFuses = 0
 answerLength D (verifyPassword k xs) = 0
 answerLength D beginAuthentication = 0
 answerLength D (verifyAuthentication v xs) = 0
+
+-- the tries left, on a card, of the counter that a command uses: kinds 10 and 11 use one; for every other kind 0
+abbrev pub triesAfter : Device → Command → List ℕ → ℕ
+triesAfter D powerCycle c = 0
+triesAfter D reset c = 0
+triesAfter D (select z) c = 0
+triesAfter D (readZone a n) c = 0
+triesAfter D (writeZone a xs) c = 0
+triesAfter D (readConfiguration a n) c = 0
+triesAfter D (writeConfiguration a xs) c = 0
+triesAfter D readFuses c = 0
+triesAfter D writeFuses c = 0
+triesAfter D (verifyPassword k xs) c = D .tries (at c (D .counterAt k))
+triesAfter D beginAuthentication c = D .tries (at c (D .attemptsAt))
+triesAfter D (verifyAuthentication v xs) c = 0
 
 -- Why place i of a card d comes to hold v: a write of the j-th byte carried, judged by the rule bytes ρ and the state s; a
 -- counter filled or spent; a byte of the cryptogram replaced; a fuse blown.
@@ -90,6 +107,38 @@ module _ (D : Device) where
   answer-length c s (verifyPassword k xs) = refl
   answer-length c s beginAuthentication = refl
   answer-length c s (verifyAuthentication v xs) = refl
+
+  -- where a counter of 0 leaves none and the card has its counters, they are those of the card that the command leaves
+  pub hands-out : D .tries 0 ≡ 0 → (c : List ℕ) (s : Volatile) (k : Command) → ((n : Counter) → counterPlace D n < length c)
+      → apply D c s k .report .tries ≡ triesAfter D k (apply D c s k .card)
+  unfolding apply
+  hands-out z c s powerCycle h = refl
+  hands-out z c s reset h = refl
+  hands-out z c s (select n) h = refl
+  hands-out z c s (readZone a n) h = refl
+  hands-out z c s (writeZone a xs) h = refl
+  hands-out z c s (readConfiguration a n) h = refl
+  hands-out z c s (writeConfiguration a xs) h = refl
+  hands-out z c s readFuses h = refl
+  hands-out z c s writeFuses h = refl
+  hands-out z c s (verifyPassword k xs) h = go (eqb (at c (D .counterAt k)) 0) (sameList xs (password D c k)) refl
+    where
+      i : ℕ
+      i = D .counterAt k
+
+      go : (l r : Bool) → eqb (at c i) 0 ≡ l → presented D (attemptOf l r) c s k .tries ≡ D .tries (at (presented D (attemptOf l r) c s k .card) i)
+      go true r e = sym (ap (D .tries) (eqb-true _ _ e) ∙ z)
+      go false true e = ap (D .tries) (sym (getD-set-same c i fullCounter 0 (h (ofPassword k))))
+      go false false e = ap (D .tries) (sym (getD-set-same c i (D .spend (at c i)) 0 (h (ofPassword k))))
+  hands-out z c s beginAuthentication h = go (eqb (at c (D .attemptsAt)) 0) refl
+    where
+      i : ℕ
+      i = D .attemptsAt
+
+      go : (l : Bool) → eqb (at c i) 0 ≡ l → started D l c s .tries ≡ D .tries (at (started D l c s .card) i)
+      go true e = sym (ap (D .tries) (eqb-true _ _ e) ∙ z)
+      go false e = ap (D .tries) (sym (getD-set-same c i (D .spend (at c i)) 0 (h ofAuthentication)))
+  hands-out z c s (verifyAuthentication v xs) h = refl
 
   -- a command changes a card by such changes alone: what each of them keeps, the command keeps
   module _ (Inv : List ℕ → Type 0) (c : List ℕ) (s : Volatile) where

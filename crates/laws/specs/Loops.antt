@@ -34,6 +34,13 @@ tab-next f n v m d l e h k q =
 pub tab-done : (f : ℕ → ℕ) (i n : ℕ) (d l : List ℕ) → l ≡ tab f i ++ drop i d → i ≤ n → n ≤ i → l ≡ tab f n ++ drop n d
 tab-done f i n d l e h k = let q : i ≡ n = le-antisymm h k in rw (← q) e
 
+-- the last element of the space
+pub tab-last : (f : ℕ → ℕ) (n v : ℕ) (d l : List ℕ) → l ≡ tab f n ++ drop n d → length d ≡ suc n → set l n v ≡ tab f n ++ (v ∷ [])
+tab-last f n v d l e h =
+    ap (λ (x : List ℕ). set x n v) (e ∙ ap (λ (x : List ℕ). tab f n ++ x) (drop-cons d n 0 (omega arith)))
+    ∙ set-at (tab f n) (at d n) (drop (suc n) d) v n (length-tab f n)
+    ∙ ap (λ (x : List ℕ). tab f n ++ (v ∷ x)) (drop-of-length-le d {i = suc n} (omega arith))
+
 -- ---- stores
 
 pub stores-next : (rule : ℕ → ℕ → ℕ → ℕ) (cell : ℕ → ℕ) (xs s c : List ℕ) (k i v : ℕ) → stores rule cell (drop k xs) k c ≡ s → k < length xs → i ≡ cell k

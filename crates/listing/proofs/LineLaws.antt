@@ -6,16 +6,19 @@ use mathlib.Core.Path.{_≡_, refl, sym, ap, _∙_}
 use native.Mathlib.Omega.{arith}
 use lib.ListN.{length, take, drop, length-append, length-drop}
 use lib.Seq.{getD-take, getD-drop, length-take-le, drop-drop, take-nil, drop-nil, take-all}
-use Rattle.model.specs.Sizes.{fuseAt}
+use Rattle.model.specs.Sizes.{cardSize, fuseAt}
+use Rattle.model.specs.Device.{triesOf}
+use Rattle.model.specs.At88sc1608.{at88sc1608}
 use Rattle.model.specs.Lists.{at}
 use Rattle.laws.specs.BoolLaws.{and-left, and-right}
 use Rattle.model.specs.Log.{countOf, offsetOf, lengthAt, entryOk, entriesOk, trailerOk, valid}
 use Rattle.properties.specs.LogLaws.{entered, Trailed, trailed}
 use Rattle.text.specs.Put.{Put}
 use Rattle.listing.specs.Ready.{EntriesReady, LogReady}
-use Rattle.text.specs.Text.{hex, hexes, decimal, line, fusesLine}
+use Rattle.text.specs.Text.{hex, hexes, decimal, decimals, line, triesLine, fusesLine}
 use Rattle.text.specs.TextLaws.{hexes-length}
-use Rattle.listing.specs.Listing.{linesAt, logLines}
+use Rattle.listing.specs.Listing.{linesAt, cardLines, logLines}
+use Rattle.listing.specs.ListingLaws.{tries-line, card-lines}
 use Rattle.text.proofs.PutLaws.{put-then}
 
 -- ---- one line
@@ -44,6 +47,33 @@ pub word-put : (word text l : List ℕ) (i : ℕ) (l₁ : List ℕ) (i₁ : ℕ)
     → Put l i word l₁ i₁ → Put l₁ i₁ text l₂ i₂ → Put l₂ i₂ (0x0A ∷ []) l₃ i₃ → Put l i (word ++ (text ++ (0x0A ∷ []))) l₃ i₃
 word-put word text l i l₁ i₁ l₂ i₂ l₃ i₃ p q r =
     put-then l i word l₁ i₁ (text ++ (0x0A ∷ [])) l₃ i₃ p (put-then l₁ i₁ text l₂ i₂ (0x0A ∷ []) l₃ i₃ q r)
+
+-- the line of the tries left, from the numbers that were counted
+abbrev triesWord : List ℕ
+triesWord = 0x74 ∷ 0x72 ∷ 0x69 ∷ 0x65 ∷ 0x73 ∷ []
+
+module _ (c ns : List ℕ) (counted : ns ≡ triesOf at88sc1608 c) (l : List ℕ) (i : ℕ) (l₁ : List ℕ) (i₁ : ℕ) (l₂ : List ℕ) (i₂ : ℕ)
+    (p : Put l i triesWord l₁ i₁) (q : Put l₁ i₁ (decimals ns) l₂ i₂) where
+  pub tries-place : i₂ ≡ i + 39
+  tries-place =
+      let a = p .past in
+      let b = q .past ∙ ap (λ (x : List ℕ). i₁ + length (decimals x)) counted in
+      let d = tries-line c in
+      let e = length-append (decimals (triesOf at88sc1608 c)) (0x0A ∷ []) in
+      omega arith
+
+  pub tries-put : (l₃ : List ℕ) (i₃ : ℕ) → Put l₂ i₂ (0x0A ∷ []) l₃ i₃ → Put l i (triesLine (triesOf at88sc1608 c)) l₃ i₃
+  tries-put l₃ i₃ r = rw (← counted) (word-put triesWord (decimals ns) l i l₁ i₁ l₂ i₂ l₃ i₃ p q r)
+
+-- ---- the lines of a card
+
+module _ (c l : List ℕ) (i : ℕ) (l₁ : List ℕ) (i₁ : ℕ) (p : Put l i (triesLine (triesOf at88sc1608 c)) l₁ i₁) where
+  pub fuses-place : i₁ ≡ i + 40
+  fuses-place = let a = p .past in let b = tries-line c in omega arith
+
+  pub card-put : (l₂ : List ℕ) (i₂ : ℕ) → Put l₁ i₁ (fusesLine (at c fuseAt)) l₂ i₂ → Put l i (cardLines c) l₂ i₂
+  unfolding cardLines
+  card-put l₂ i₂ q = put-then l i (triesLine (triesOf at88sc1608 c)) l₁ i₁ (fusesLine (at c fuseAt)) l₂ i₂ p q
 
 -- ---- the entries of a log
 
@@ -157,11 +187,15 @@ module _ (l : List ℕ) (r : LogReady l) where
   unfolding valid
   log-trailed = trailed l (and-left (trailerOk l) _ (r .well))
 
-  pub log-long : length (logLines l) ≡ length (linesAt (countOf l) 0 l 0) + 9
-  log-long = length-append (linesAt (countOf l) 0 l 0) (fusesLine (at l (offsetOf l + fuseAt)))
+  log-long : length (logLines l) ≡ length (linesAt (countOf l) 0 l 0) + 49
+  log-long =
+      let c : List ℕ = take cardSize (drop (offsetOf l) l) in
+      let a = length-append (linesAt (countOf l) 0 l 0) (cardLines c) in
+      let b = card-lines c in
+      omega arith
 
-  module _ (count end : ℕ) (counted : count ≡ countOf l) (points : end ≡ offsetOf l) where
-    pub entries-ready : EntriesReady l count end
+  module _ (count start : ℕ) (counted : count ≡ countOf l) (points : start ≡ offsetOf l) where
+    pub entries-ready : EntriesReady l count start
     unfolding valid
     entries-ready =
         record {
@@ -170,16 +204,8 @@ module _ (l : List ℕ) (r : LogReady l) where
           small = rw counted (let s = r .small in let a = log-long in omega arith);
         }
 
-    pub log-put : (t t₁ : List ℕ) (i₁ : ℕ) (t₂ : List ℕ) (i₂ : ℕ) (t₃ : List ℕ) (i₃ : ℕ) (t₄ : List ℕ) (i₄ : ℕ)
-        → Put t 0 (linesAt count 0 l 0) t₁ i₁ → Put t₁ i₁ (0x66 ∷ 0x75 ∷ 0x73 ∷ 0x65 ∷ 0x73 ∷ []) t₂ i₂ → Put t₂ i₂ (hex (at l (end + fuseAt))) t₃ i₃
-        → Put t₃ i₃ (0x0A ∷ []) t₄ i₄
-        → Put t 0 (logLines l) t₄ i₄
-    log-put t t₁ i₁ t₂ i₂ t₃ i₃ t₄ i₄ p q s u =
-        rw (← counted, ← points) (put-then t 0 (linesAt count 0 l 0) t₁ i₁ (fusesLine (at l (end + fuseAt))) t₄ i₄ p
-        (word-put (0x66 ∷ 0x75 ∷ 0x73 ∷ 0x65 ∷ 0x73 ∷ []) (hex (at l (end + fuseAt))) t₁ i₁ t₂ i₂ t₃ i₃ t₄ i₄ q s u))
-
-    -- the line of the fuses has room behind the entries' lines
-    pub entries-room : (t t₁ : List ℕ) (i₁ : ℕ) → Put t 0 (linesAt count 0 l 0) t₁ i₁ → i₁ + 9 < 2 ^ 64
+    -- the lines of the card have room behind those of the entries
+    pub entries-room : (t t₁ : List ℕ) (i₁ : ℕ) → Put t 0 (linesAt count 0 l 0) t₁ i₁ → i₁ + 100 < 2 ^ 64
     entries-room t t₁ i₁ p =
         let a = p .past in
         let b = log-long in
@@ -187,5 +213,21 @@ module _ (l : List ℕ) (r : LogReady l) where
         let s = r .small in
         omega arith
 
-    pub fuses-within : end + fuseAt < length l
-    fuses-within = let m = log-trailed .meets in let p = points in omega arith
+    -- the card as a part of the log
+    pub card-within : start + cardSize ≤ length l
+    card-within = let m = log-trailed .meets in let p = points in omega arith
+
+    part-size : start + cardSize - start ≡ cardSize
+    part-size = omega arith
+
+    pub card-long : length (take (start + cardSize - start) (drop start l)) ≡ cardSize
+    card-long =
+        let a = length-drop start l in
+        let b = card-within in
+        ap (λ (n : ℕ). length (take n (drop start l))) part-size ∙ length-take-le cardSize (drop start l) (omega arith)
+
+    pub log-put : (t t₁ : List ℕ) (i₁ : ℕ) (t₂ : List ℕ) (i₂ : ℕ)
+        → Put t 0 (linesAt count 0 l 0) t₁ i₁ → Put t₁ i₁ (cardLines (take (start + cardSize - start) (drop start l))) t₂ i₂ → Put t 0 (logLines l) t₂ i₂
+    log-put t t₁ i₁ t₂ i₂ p q =
+        rw (← counted, ← points, ← part-size)
+        (put-then t 0 (linesAt count 0 l 0) t₁ i₁ (cardLines (take (start + cardSize - start) (drop start l))) t₂ i₂ p q)

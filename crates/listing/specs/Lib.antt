@@ -2,3 +2,5 @@ pub mod Listing
 pub mod Ready
 pub mod ListingLaws
 pub mod Whole
+pub mod ListingAlike
+pub mod ListingSecrecy

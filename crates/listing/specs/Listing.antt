@@ -4,13 +4,15 @@ use mathlib.Core.List.{List, [], _++_}
 use mathlib.Core.Path.{_≡_}
 use lib.ListN.{length, take, drop, replicate}
 use lib.Seq.{sets}
-use Rattle.model.specs.Sizes.{fuseAt, printingSpace}
+use Rattle.model.specs.Sizes.{cardSize, fuseAt, printingSpace}
 use Rattle.model.specs.Lists.{at}
 use Rattle.model.specs.Command.{Command}
+use Rattle.model.specs.Device.{triesOf}
+use Rattle.model.specs.At88sc1608.{at88sc1608}
 use Rattle.model.specs.Log.{countOf, offsetOf, lengthAt, nextEntry}
 use Rattle.model.specs.Session.{Read, stopped, all, readFrom, entriesOf, endOf, initial, run}
 use Rattle.model.specs.Session as session
-use Rattle.text.specs.Text.{line, lines, fusesLine, refusedLine}
+use Rattle.text.specs.Text.{line, lines, triesLine, fusesLine, refusedLine}
 
 -- the commands of a session
 abbrev pub commandsIn : Read → List Command
@@ -20,9 +22,13 @@ commandsIn (all ks i) = ks
 abbrev pub commandsOf : List ℕ → List Command
 commandsOf s = commandsIn (readFrom (session.countOf s) s (session.startOf s))
 
--- a line per record and F at the end; or the refusal alone
+-- what is told of the final card: the tries left of its counters, and F
+unfoldable pub cardLines : List ℕ → List ℕ
+cardLines c = triesLine (triesOf at88sc1608 c) ++ fusesLine (at c fuseAt)
+
+-- a line per record, and those of the final card; or the refusal alone
 abbrev pub listed : List ℕ → ℕ → List ℕ
-listed s zero = lines 0 (entriesOf (commandsOf s) (initial s)) ++ fusesLine (at (endOf (commandsOf s) (initial s) .card) fuseAt)
+listed s zero = lines 0 (entriesOf (commandsOf s) (initial s)) ++ cardLines (endOf (commandsOf s) (initial s) .card)
 listed s (suc n) = refusedLine (suc n)
 
 -- of a session that is run in a log space
@@ -56,4 +62,4 @@ linesAt zero k l i = []
 linesAt (suc n) k l i = line k (at l i) (take (lengthAt l i) (drop (i + 3) l)) ++ linesAt n (suc k) l (nextEntry l i)
 
 abbrev pub logLines : List ℕ → List ℕ
-logLines l = linesAt (countOf l) 0 l 0 ++ fusesLine (at l (offsetOf l + fuseAt))
+logLines l = linesAt (countOf l) 0 l 0 ++ cardLines (take cardSize (drop (offsetOf l) l))

@@ -3,15 +3,18 @@ use Prim.Native.Nat.{ℕ, suc, _+_, _*_, _≤_, _<_}
 use mathlib.Core.List.{List, [], _∷_, _++_}
 use mathlib.Core.Path.{_≡_, refl, ap, _∙_}
 use native.Mathlib.Omega.{arith}
-use lib.ListN.{length, length-append, List·getD-append}
-use lib.Seq.{getD-append-add, length-sets}
+use lib.ListN.{length, length-append}
 use Rattle.model.specs.Sizes.{fuseAt}
-use Rattle.model.specs.Lists.{at}
+use Rattle.model.specs.Lists.{at, tab}
+use Rattle.model.specs.Bits.{triesLeft}
+use Rattle.model.specs.Device.{triesOf}
+use Rattle.model.specs.At88sc1608.{at88sc1608, counterAt, attemptsAt}
 use Rattle.model.specs.Log.{Entry, entryBytes, entriesBytes, logTrailer, AllFit, LaidOut}
-use Rattle.properties.specs.Written.{length-entry, kind-at, response-at, next-at, fits-two, first-entry, other-entries, offset-is, count-is, log-length}
-use Rattle.text.specs.Text.{line, lines, fusesLine}
-use Rattle.text.specs.TextLaws.{line-length}
-use Rattle.listing.specs.Listing.{linesAt, logLines}
+use Rattle.properties.specs.TriesLeft.{at-most-eight}
+use Rattle.properties.specs.Written.{length-entry, kind-at, response-at, next-at, fits-two, first-entry, other-entries, count-is, log-length, written-card}
+use Rattle.text.specs.Text.{decimal, decimals, line, lines, triesLine, fusesLine}
+use Rattle.text.specs.TextLaws.{line-length, decimal-one, decimals-last, decimals-tab}
+use Rattle.listing.specs.Listing.{cardLines, linesAt, logLines}
 
 entries-listed : (es : List Entry) (p q : List ℕ) (k : ℕ) → AllFit es → linesAt (length es) k (p ++ (entriesBytes es ++ q)) (length p) ≡ lines k es
 entries-listed [] p q k f = refl
@@ -22,17 +25,33 @@ entries-listed (e ∷ es) p q k f =
     (ap (λ (x : List ℕ). line k (e .kind) (e .response) ++ x) (rw (other-entries p e es q) at rest))
 
 module _ (es : List Entry) (card l : List ℕ) (w : LaidOut es card l) where
-  pub log-listed : logLines l ≡ lines 0 es ++ fusesLine (at card fuseAt)
+  pub log-listed : logLines l ≡ lines 0 es ++ cardLines card
   log-listed =
-      let o = w .long in
-      rw (
-        count-is es card l w,
-        offset-is es card l w,
-        w .same,
-        getD-append-add (entriesBytes es) (card ++ logTrailer (length (entriesBytes es)) (length es)) fuseAt 0,
-        List·getD-append card (logTrailer (length (entriesBytes es)) (length es)) 0 fuseAt (omega arith),
-      )
-      (ap (λ (x : List ℕ). x ++ fusesLine (at card fuseAt)) (entries-listed es [] (card ++ logTrailer (length (entriesBytes es)) (length es)) 0 (w .fit)))
+      rw (count-is es card l w, written-card es card l w, w .same)
+      (ap (λ (x : List ℕ). x ++ cardLines card) (entries-listed es [] (card ++ logTrailer (length (entriesBytes es)) (length es)) 0 (w .fit)))
+
+-- a card has two lines: seventeen numbers of a digit, and F
+pub tries-line : (c : List ℕ) → length (triesLine (triesOf at88sc1608 c)) ≡ 40
+unfolding triesOf
+tries-line c =
+    let a = ap length (decimals-last (tab f 16) last) ∙ length-append (decimals (tab f 16)) (0x20 ∷ decimal last) in
+    let b = length-append (decimals (triesOf at88sc1608 c)) (0x0A ∷ []) in
+    let d = ap length (decimal-one last (small (at c attemptsAt))) in
+    let t = decimals-tab f (λ k. small (at c (counterAt k))) 16 in
+    omega arith
+  where
+    f : ℕ → ℕ
+    f k = triesLeft (at c (counterAt k))
+
+    last : ℕ
+    last = triesLeft (at c attemptsAt)
+
+    small : (x : ℕ) → triesLeft x < 10
+    small x = let m = at-most-eight x in omega arith
+
+pub card-lines : (c : List ℕ) → length (cardLines c) ≡ 49
+unfolding cardLines
+card-lines c = let a = length-append (triesLine (triesOf at88sc1608 c)) (fusesLine (at c fuseAt)) in let t = tries-line c in omega arith
 
 lines-length : (es : List Entry) (k : ℕ) → k + length es ≤ 10000 → length (lines k es) ≤ 3 * length (entriesBytes es)
 lines-length [] k h = omega arith
@@ -49,5 +68,6 @@ pub listing-length : (es : List Entry) (card l : List ℕ) → LaidOut es card l
 listing-length es card l w =
     let a = lines-length es 0 (let f = w .few in omega arith) in
     let b = log-length es card l w in
-    let c = ap length (log-listed es card l w) ∙ length-append (lines 0 es) (fusesLine (at card fuseAt)) in
+    let c = ap length (log-listed es card l w) ∙ length-append (lines 0 es) (cardLines card) in
+    let d = card-lines card in
     omega arith

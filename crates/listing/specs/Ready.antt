@@ -1,5 +1,5 @@
 -- What the lines of a log ask of it.
-use Prim.Native.Nat.{ℕ, _≤_, _<_, _^_}
+use Prim.Native.Nat.{ℕ, _+_, _≤_, _<_, _^_}
 use mathlib.Core.Bool.{true}
 use mathlib.Core.List.{List}
 use mathlib.Core.Path.{_≡_}
@@ -13,7 +13,7 @@ pub record EntriesReady (l : List ℕ) (count end : ℕ) : Type 0 where
   pub within : end ≤ length l
   pub small : length (linesAt count 0 l 0) < 2 ^ 64
 
--- a log
+-- a log, with room in any space's numbers behind its lines
 pub record LogReady (l : List ℕ) : Type 0 where
   pub well : valid l ≡ true
-  pub small : length (logLines l) < 2 ^ 64
+  pub small : length (logLines l) + 100 < 2 ^ 64

@@ -6,17 +6,23 @@ ghost use Rattle.model.specs.Lists as lists;
 ghost use Rattle.record.specs.RefusalNumber.{refusalNumber};
 ghost use Rattle.text.specs.Put.{Put};
 ghost use Rattle.listing.specs.Ready.{EntriesReady, LogReady};
-ghost use Rattle.text.specs.Text.{line, refusedLine};
-ghost use Rattle.listing.specs.Listing.{linesAt, logLines};
+ghost use Rattle.model.specs.Sizes.{cardSize, fuseAt};
+ghost use Rattle.model.specs.Device.{triesOf};
+ghost use Rattle.model.specs.At88sc1608.{at88sc1608};
+ghost use Rattle.text.specs.Text.{line, triesLine, fusesLine, refusedLine};
+ghost use Rattle.listing.specs.Listing.{linesAt, cardLines, logLines};
 use record::number::get2;
 use record::number::get4;
 use record::refusal::Refusal;
 use record::refusal::number;
+use security::counter::tries_of;
+use sizes::CARD;
 use sizes::FUSES;
 use sizes::TRAILER;
 use text::put;
 use text::put_all;
 use text::put_decimal;
+use text::put_decimals;
 use text::put_hex;
 use text::put_hexes;
 
@@ -48,17 +54,46 @@ fn put_entries(text: &mut [u8], log: &[u8], count: usize, end: usize) -> usize
     to
 }
 
-// helper: a line for each entry of a log, and F.
+// helper: the line of the tries left.
+fn put_tries(text: &mut [u8], at: usize, card: &[u8]) -> usize
+    requires { ⌜ (length (now card) ≡ cardSize) × (at + 91 < 2 ^ 64) ⌝ }
+    ensures { λ r. ⌜ Put (now (text .entry)) at (triesLine (triesOf at88sc1608 (now (card .entry)))) (now (text .exit)) r ⌝ }
+{
+    let tries = tries_of(card);
+    let numbers = put_all(text, at, b"tries");
+    let last = put_decimals(text, numbers, &tries);
+    put(text, last, 10)
+}
+
+// helper: the line of the fuses.
+fn put_fuses(text: &mut [u8], at: usize, card: &[u8]) -> usize
+    requires { ⌜ (length (now card) ≡ cardSize) × (at + 9 < 2 ^ 64) ⌝ }
+    ensures { λ r. ⌜ Put (now (text .entry)) at (fusesLine (lists.at (now (card .entry)) fuseAt)) (now (text .exit)) r ⌝ }
+{
+    let value = put_all(text, at, b"fuses");
+    let last = put_hex(text, value, card[FUSES]);
+    put(text, last, 10)
+}
+
+// helper: the lines of a final card.
+fn put_card(text: &mut [u8], at: usize, card: &[u8]) -> usize
+    requires { ⌜ (length (now card) ≡ cardSize) × (at + 100 < 2 ^ 64) ⌝ }
+    ensures { λ r. ⌜ Put (now (text .entry)) at (cardLines (now (card .entry))) (now (text .exit)) r ⌝ }
+{
+    let next = put_tries(text, at, card);
+    put_fuses(text, next, card)
+}
+
+// helper: a line for each entry of a log, and those of its card.
 pub fn put_log(text: &mut [u8], log: &[u8]) -> usize
     requires { ⌜ LogReady (now log) ⌝ }
     ensures { λ r. ⌜ Put (now (text .entry)) 0 (logLines (now (log .entry))) (now (text .exit)) r ⌝ }
 {
     let length = log.len();
-    let end = get4(log, length - TRAILER);
-    let fuses = put_entries(text, log, get2(log, length - 4), end);
-    let value = put_all(text, fuses, b"fuses");
-    let last = put_hex(text, value, log[end + FUSES]);
-    put(text, last, 10)
+    let start = get4(log, length - TRAILER);
+    let end = start + CARD;
+    let next = put_entries(text, log, get2(log, length - 4), start);
+    put_card(text, next, &log[start..end])
 }
 
 // helper: a refusal.

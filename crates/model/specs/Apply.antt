@@ -8,8 +8,8 @@ use Rattle.model.specs.Lists.{at, tab, sameList, stores}
 use Rattle.model.specs.Volatile.{Volatile, none, selector, idle, begun, granted, powerUp, isBegun, selecting, activating, authenticating}
 use Rattle.model.specs.Command.{Command, powerCycle, reset, select, readZone, writeZone, readConfiguration, writeConfiguration, readFuses, writeFuses}
 use Rattle.model.specs.Command.{verifyPassword, beginAuthentication, verifyAuthentication}
-use Rattle.model.specs.Device.{Device}
-use Rattle.model.specs.Call.{Acted, Powered, acted, powered, silent}
+use Rattle.model.specs.Device.{Device, spent}
+use Rattle.model.specs.Call.{Acted, Powered, Tried, acted, attempted, powered, silent, tried}
 
 -- an attempts counter that stands full: $FF
 abbrev pub fullCounter : ℕ
@@ -50,22 +50,26 @@ module _ (D : Device) where
   abbrev pub password : List ℕ → ℕ → List ℕ
   password c k = tab (λ i. at c (D .passwordByte k i)) (D .passwordCount)
 
-  -- one failed attempt more on the counter at a place
-  abbrev pub spent : List ℕ → ℕ → List ℕ
-  spent c i = set c i (D .spend (at c i))
+  -- the counter at a place, full again; and with one failed attempt more
+  abbrev pub filled : ℕ → List ℕ → Volatile → Tried Volatile
+  filled i c s = tried (set c i fullCounter) s (D .tries fullCounter)
+
+  abbrev pub counted : ℕ → List ℕ → Volatile → Tried Volatile
+  counted i c s = tried (set c i (spent D (at c i) .value)) s (spent D (at c i) .tries)
 
   -- Kind 10. Locked: nothing changes, and whatever password was active stays so. Right: the counter is full again, and this
   -- selector is the active one. Wrong: the counter counts, and no password is active. Zone, authentication and every other byte stay.
-  abbrev pub presented : Attempt → List ℕ → Volatile → ℕ → Powered Volatile
-  presented locked c s k = powered c s
-  presented right c s k = powered (set c (D .counterAt k) fullCounter) (activating s (selector k))
-  presented wrong c s k = powered (spent c (D .counterAt k)) (activating s none)
+  -- What the counter then leaves is handed out.
+  abbrev pub presented : Attempt → List ℕ → Volatile → ℕ → Tried Volatile
+  presented locked c s k = tried c s 0
+  presented right c s k = filled (D .counterAt k) c (activating s (selector k))
+  presented wrong c s k = counted (D .counterAt k) c (activating s none)
 
   -- Kind 11, by whether the counter is used up. If so, nothing changes; else the counter counts at once and authentication is
-  -- begun. Zone, active password and every other byte stay.
-  abbrev pub started : (used : Bool) → List ℕ → Volatile → Powered Volatile
-  started true c s = powered c s
-  started false c s = powered (spent c (D .attemptsAt)) (authenticating s begun)
+  -- begun. Zone, active password and every other byte stay. What the counter then leaves is handed out.
+  abbrev pub started : (used : Bool) → List ℕ → Volatile → Tried Volatile
+  started true c s = tried c s 0
+  started false c s = counted (D .attemptsAt) c (authenticating s begun)
 
   -- Kind 12. Not begun: nothing changes. Accepted: the bytes are the new cryptogram, the counter is full again, authentication is
   -- granted. Denied: authentication is idle, and the card stays. Zone and active password stay in every case.
@@ -94,6 +98,6 @@ module _ (D : Device) where
   -- 9: one more fuse is blown, for whom it is allowed; every other byte and the state stay
   apply c s writeFuses = acted (cond (D .mayBlow s) (set c (D .fuseAt) (D .blow (at c (D .fuseAt)))) c) s []
   -- 10 to 12, as said above
-  apply c s (verifyPassword k xs) = silent (presented (attemptOf (eqb (at c (D .counterAt k)) 0) (sameList xs (password c k))) c s k)
-  apply c s beginAuthentication = silent (started (eqb (at c (D .attemptsAt)) 0) c s)
+  apply c s (verifyPassword k xs) = attempted (presented (attemptOf (eqb (at c (D .counterAt k)) 0) (sameList xs (password c k))) c s k)
+  apply c s beginAuthentication = attempted (started (eqb (at c (D .attemptsAt)) 0) c s)
   apply c s (verifyAuthentication v xs) = silent (judged (judgementOf (isBegun (s .authentication)) v) c s xs)

@@ -5,7 +5,7 @@ use mathlib.Core.List.{List}
 use lib.Dec.{ltb, eqb}
 use Rattle.model.specs.Sizes.{cardSize, fuseAt}
 use Rattle.model.specs.Lists.{at}
-use Rattle.model.specs.Bits.{reversed, spentCounter}
+use Rattle.model.specs.Bits.{reversed, spentCounter, triesLeft}
 use Rattle.model.specs.Volatile.{Volatile, isActive}
 use Rattle.model.specs.Device.{Device}
 use Rattle.model.specs.Access.{zoneReadable, zoneWritable, zoneMerge, configurationAllows}
@@ -105,6 +105,7 @@ at88sc1608 =
       attemptsAt = attemptsAt;
       cryptogramCell = λ k. cryptogramAt + k % 8;
       spend = spentCounter;
+      tries = triesLeft;
       mayBlow = λ s. isActive (s .active) 7;
       blow = blow;
     }

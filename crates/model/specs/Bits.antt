@@ -1,4 +1,4 @@
--- Bytes by their bits: the reversal of a byte, and the lowest 1 bit cleared. Each is told bit by bit, from bit 0 up.
+-- Bytes by their bits: the reversal of a byte, the lowest 1 bit cleared, the 1 bits counted. Each is told bit by bit, from bit 0 up.
 use Prim.Native.Nat.{ℕ, zero, suc, _+_, _-_, _*_, _/_, _%_, _^_}
 use mathlib.Core.Bool.{cond}
 use lib.Dec.{eqb}
@@ -20,3 +20,12 @@ lowestCleared (suc n) x = cond (eqb (x % 2) 1) (x - 1) (lowestCleared n (x / 2) 
 -- an attempts counter after a failed attempt: its lowest 1 bit becomes 0
 unfoldable pub spentCounter : ℕ → ℕ
 spentCounter x = lowestCleared 8 x
+
+-- how many of the n lowest bits of x are 1
+abbrev pub bitCount : ℕ → ℕ → ℕ
+bitCount zero x = 0
+bitCount (suc n) x = x % 2 + bitCount n (x / 2)
+
+-- the tries that an attempts counter leaves: its 1 bits
+unfoldable pub triesLeft : ℕ → ℕ
+triesLeft x = bitCount 8 x

@@ -15,13 +15,14 @@ pub record Powered (S : Type 0) : Type 0 where
 abbrev pub powered : {S : Type 0} → List ℕ → S → Powered S
 powered c s = record { card = c; state = s }
 
--- all that an act hands out beside the card
+-- all that an act hands out beside the card: the state, the answer, and the tries left of the counter that it used, 0 if it used none
 pub record Report (S : Type 0) : Type 0 where
   pub state : S
   pub answer : List ℕ
+  pub tries : ℕ
 
 abbrev pub reporting : {S : Type 0} → S → List ℕ → Report S
-reporting s answer = record { state = s; answer = answer }
+reporting s answer = record { state = s; answer = answer; tries = 0 }
 
 -- what an act leaves
 pub record Acted (S : Type 0) : Type 0 where
@@ -35,16 +36,30 @@ acted c s answer = record { card = c; report = reporting s answer }
 abbrev pub silent : {S : Type 0} → Powered S → Acted S
 silent m = acted (m .card) (m .state) []
 
+-- what the use of a counter leaves: the card and the state, and the tries that the counter then has
+pub record Tried (S : Type 0) : Type 0 where
+  pub card : List ℕ
+  pub state : S
+  pub tries : ℕ
+
+abbrev pub tried : {S : Type 0} → List ℕ → S → ℕ → Tried S
+tried c s tries = record { card = c; state = s; tries = tries }
+
+-- an act that hands out tries, with no answer
+abbrev pub attempted : {S : Type 0} → Tried S → Acted S
+attempted m = record { card = m .card; report = record { state = m .state; answer = []; tries = m .tries } }
+
 -- what a decoder finds at the front of some bytes: a refusal's number, or a command and the length of its record
 pub data Decoded (K : Type 0) : Type 0 where
   refused : ℕ → Decoded K
   whole : K → ℕ → Decoded K
 
--- what a call gives back: the refusal's number or 0, the response's length, the volatile state, the whole response space
+-- what a call gives back: the refusal's number or 0, the response's length, the volatile state, the tries left, the whole response space
 pub record Reply (S : Type 0) : Type 0 where
   pub refusal : ℕ
   pub size : ℕ
   pub state : S
+  pub tries : ℕ
   pub space : List ℕ
 
 -- what a call leaves
@@ -60,9 +75,9 @@ pub record Call : Type 0 where
 abbrev pub calling : List ℕ → List ℕ → Call
 calling sent space = record { sent = sent; space = space }
 
--- a refusal: its number, no response, the state and the space as they came
+-- a refusal: its number, no response and no tries, the state and the space as they came
 abbrev pub refusing : {S : Type 0} → ℕ → S → List ℕ → Reply S
-refusing n s space = record { refusal = n; size = 0; state = s; space = space }
+refusing n s space = record { refusal = n; size = 0; state = s; tries = 0; space = space }
 
 -- an accepted call writes its answer at the front of the space and keeps the rest
 abbrev pub replying : {S : Type 0} → List ℕ → Report S → Reply S
@@ -71,6 +86,7 @@ replying space r =
       refusal = 0;
       size = length (r .answer);
       state = r .state;
+      tries = r .tries;
       space = r .answer ++ drop (length (r .answer)) space;
     }
 

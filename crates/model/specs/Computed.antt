@@ -1,6 +1,6 @@
 -- What a run on concrete cards computes with.
 use Rattle.model.specs.Lists.{tab, sameList, stores}
-use Rattle.model.specs.Bits.{reversed, spentCounter}
+use Rattle.model.specs.Bits.{reversed, spentCounter, triesLeft}
 use Rattle.model.specs.Access.{permissions, areaOf, stageOf, permission, permits}
 use Rattle.model.specs.At88sc1608.{mayRead, mayWrite, merge, blow}
 use Rattle.model.specs.Apply as any
@@ -11,5 +11,5 @@ use Rattle.model.specs.Single.{checkOf}
 -- to unfold this is to unfold all of it
 unfoldable pub computed : Unit {0}
 unfolding calls.replies calls.final calls.command calls.admission checkOf decode kinds fixedFields inRange dataLength made
-    any.apply tab sameList stores mayRead mayWrite merge permissions areaOf stageOf permission permits reversed spentCounter blow
+    any.apply tab sameList stores mayRead mayWrite merge permissions areaOf stageOf permission permits reversed spentCounter triesLeft blow
 computed = tt

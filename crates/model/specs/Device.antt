@@ -2,7 +2,8 @@
 -- counters and fuses move. A place is an index into the card's bytes. The functions are total: they answer for every number.
 use Prim.Native.Nat.{ℕ}
 use mathlib.Core.Bool.{Bool}
-use mathlib.Core.List.{List}
+use mathlib.Core.List.{List, [], _∷_, _++_}
+use Rattle.model.specs.Lists.{at, tab}
 use Rattle.model.specs.Volatile.{Volatile}
 
 pub record Device : Type 0 where
@@ -38,8 +39,9 @@ pub record Device : Type 0 where
   -- the place of the authentication attempts counter and of byte k of the cryptogram
   pub attemptsAt : ℕ
   pub cryptogramCell : ℕ → ℕ
-  -- an attempts counter after a failed attempt
+  -- an attempts counter after a failed attempt, and how many tries a counter leaves
   pub spend : ℕ → ℕ
+  pub tries : ℕ → ℕ
   -- who may blow a fuse, and the fuse byte after that
   pub mayBlow : Volatile → Bool
   pub blow : ℕ → ℕ
@@ -52,3 +54,15 @@ pub data Counter : Type 0 where
 abbrev pub counterPlace : Device → Counter → ℕ
 counterPlace D (ofPassword k) = D .counterAt k
 counterPlace D ofAuthentication = D .attemptsAt
+
+-- the rule for a failed attempt: the counter's new value, and the tries that are then left
+pub record Spent : Type 0 where
+  pub value : ℕ
+  pub tries : ℕ
+
+abbrev pub spent : Device → ℕ → Spent
+spent D x = record { value = D .spend x; tries = D .tries (D .spend x) }
+
+-- the tries left of every counter of a card: by selector, then that of authentication
+unfoldable pub triesOf : Device → List ℕ → List ℕ
+triesOf D c = tab (λ k. D .tries (at c (D .counterAt k))) (D .selectors) ++ (D .tries (at c (D .attemptsAt)) ∷ [])

@@ -21,3 +21,4 @@ pub mod Computed
 pub mod Trials
 pub mod Cases
 pub mod Mistakes
+pub mod Attempts

@@ -22,6 +22,9 @@ on c = record { card = c; state = powerUp }
 abbrev pub spaces : List ℕ → List (List ℕ) → List (List ℕ)
 spaces c records = map (λ r. r .space) (replies (map call records) (on c))
 
+abbrev pub tries : List ℕ → List (List ℕ) → List ℕ
+tries c records = map (λ r. r .tries) (replies (map call records) (on c))
+
 abbrev pub left : List ℕ → List (List ℕ) → Powered Volatile
 left c records = final (map call records) (on c)
 

@@ -8,9 +8,11 @@ use Rattle.model.specs.Sizes.{cardSize}
 use Rattle.model.specs.Numbers.{bytesOf}
 use Rattle.model.specs.Volatile.{Volatile}
 use Rattle.model.specs.Command.{Command, powerCycle}
-use Rattle.model.specs.Call.{Powered, reporting, Called, replying}
+use Rattle.model.specs.At88sc1608.{at88sc1608}
+use Rattle.model.specs.Call.{Powered, Called, replying}
 use Rattle.model.specs.Reader.{recordsEnd, partAt}
 use Rattle.model.specs.Record.{recordLength}
+use Rattle.laws.specs.Effects.{triesAfter}
 use Rattle.model.specs.Session.{startOf, countOf, frame, all, readFrom, endOf, logOf, Ran}
 
 -- ---- the session
@@ -47,6 +49,7 @@ reached ks m k = endOf (take k ks) m
 abbrev pub recordAt : List ℕ → ℕ → List ℕ
 recordAt s i = take (recordLength (partAt s i)) (partAt s i)
 
--- what a single command leaves that gives a response
-abbrev pub leaving : Powered Volatile → List ℕ → List ℕ → Called Volatile
-leaving m answer space = record { card = m .card; reply = replying space (reporting (m .state) answer) }
+-- what a single command leaves that gives a response: it hands out the tries left of the counter that it used, on the card that it leaves
+abbrev pub leaving : Command → Powered Volatile → List ℕ → List ℕ → Called Volatile
+leaving k m answer space =
+    record { card = m .card; reply = replying space (record { state = m .state; answer = answer; tries = triesAfter at88sc1608 k (m .card) }) }

@@ -1,7 +1,7 @@
 -- The records of a session as a list of single commands, each with just the room for its response: what that list gives back and
 -- leaves is what the session logs and leaves.
 use Prim.Native.Nat.{ℕ, zero, suc, _+_}
-use mathlib.Core.List.{List, [], _∷_}
+use mathlib.Core.List.{List, [], _∷_, map}
 use mathlib.Core.Path.{_≡_, refl, ap, subst, _∙_}
 use native.Mathlib.Nat.{le-refl}
 use native.Mathlib.Omega.{arith}
@@ -24,6 +24,7 @@ use Rattle.model.specs.Single.{check, apply, command, replies, final}
 use Rattle.secrecy.specs.Along.{Along}
 use Rattle.properties.specs.Conditions.{responseLength}
 use Rattle.properties.specs.AcceptedSession.{Every}
+use Rattle.properties.specs.SessionSecret.{triesIn}
 use Rattle.properties.specs.SessionLaws.{read-first, read-none}
 use Rattle.properties.specs.ConditionsLaws.{decode-answer}
 
@@ -45,6 +46,10 @@ abbrev pub entriesFrom : List Command → List (Reply Volatile) → List Entry
 entriesFrom [] rs = []
 entriesFrom (k ∷ ks) [] = []
 entriesFrom (k ∷ ks) (r ∷ rs) = entryFrom k r ∷ entriesFrom ks rs
+
+-- what replies hand out
+abbrev pub triesFrom : List (Reply Volatile) → List ℕ
+triesFrom rs = map (λ r. r .tries) rs
 
 -- a call's record is admitted as itself
 module _ (s : List ℕ) (i : ℕ) (k : Command) (n : ℕ) (e : decode (partAt s i) ≡ whole k n) (m : Powered Volatile) (g : Good (m .card) (m .state)) where
@@ -69,6 +74,9 @@ module _ (s : List ℕ) (i : ℕ) (k : Command) (n : ℕ) (e : decode (partAt s 
   pub enters : entryFrom k (command (m .card) (m .state) (callAt s i) .reply) ≡ logged m k
   enters = rw does (ap (λ (r : List ℕ). record { kind = kindOf k; response = r }) (take-append-seam (apply (m .card) (m .state) k .report .answer) _))
 
+  pub hands : command (m .card) (m .state) (callAt s i) .reply .tries ≡ apply (m .card) (m .state) k .report .tries
+  hands = rw does
+
   pub good : Good (after m k .card) (after m k .state)
   good = good-after (m .card) (m .state) k (decode-fields (partAt s i) k n e) g
 
@@ -83,12 +91,13 @@ module _ (s : List ℕ) (i : ℕ) (k : Command) (n : ℕ) (e : decode (partAt s 
 pub record Same (xs : List Call) (ks : List Command) (m : Powered Volatile) : Type 1 where
   pub ends : final xs m ≡ endOf ks m
   pub entries : entriesFrom ks (replies xs m) ≡ entriesOf ks m
+  pub tries : triesFrom (replies xs m) ≡ triesIn ks m
   pub along : (Ok : Command → Type 0) → Every Ok ks → Along check decode apply (λ c s k. Ok k) xs m
 
 pub as-calls : (n : ℕ) (s : List ℕ) (i : ℕ) (ks : List Command) (j : ℕ) → readFrom n s i ≡ all ks j → (m : Powered Volatile) → Good (m .card) (m .state)
     → Same (callsFrom n s i) ks m
 unfolding Along calls.replies calls.final
-as-calls zero s i ks j e m g = rw (read-none s i ks j e .0) (record { ends = refl; entries = refl; along = λ Ok o. tt })
+as-calls zero s i ks j e m g = rw (read-none s i ks j e .0) (record { ends = refl; entries = refl; tries = refl; along = λ Ok o. tt })
 as-calls (suc n) s i ks j e m g =
     let f = read-first n s i ks j e in
     let k : Command = f .command in
@@ -101,5 +110,7 @@ as-calls (suc n) s i ks j e m g =
       ends = ap (final (callsFrom n s (i + recordLength (partAt s i)))) st ∙ r .ends;
       entries = λ t. enters s i k (f .size) (f .next) m g t
           ∷ (ap (λ (x : Powered Volatile). entriesFrom (f .others) (replies (callsFrom n s (i + recordLength (partAt s i))) x)) st ∙ r .entries) t;
+      tries = λ t. hands s i k (f .size) (f .next) m g t
+          ∷ (ap (λ (x : Powered Volatile). triesFrom (replies (callsFrom n s (i + recordLength (partAt s i))) x)) st ∙ r .tries) t;
       along = λ Ok o. (carries s i k (f .size) (f .next) m g Ok (o .0), rw st (r .along Ok (o .1)));
     })

@@ -28,8 +28,8 @@ module _ (c : List ℕ) (s : Volatile) (bytes space : List ℕ) where
 
   -- Where none applies, the bytes are the record of a command k, whole. The call leaves the card and the state that k leaves in a
   -- session's run at this card and this state, reached or not; its response is the one that is logged there, at the front of the
-  -- space, whose other bytes are kept.
+  -- space, whose other bytes are kept. What it hands out are the tries left on the card that it leaves, of the counter that k used.
   pub call-does : NoneApplies (callConditions c s bytes space)
       → (k : Command) × (decode bytes ≡ whole k (length bytes))
-      × (command c s (calling bytes space) ≡ leaving (after (powered c s) k) (logged (powered c s) k .response) space)
+      × (command c s (calling bytes space) ≡ leaving k (after (powered c s) k) (logged (powered c s) k .response) space)
   call-does = carries c s bytes space

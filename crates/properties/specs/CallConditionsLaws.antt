@@ -17,6 +17,7 @@ use Rattle.laws.specs.CallLaws.{carried-out}
 use Rattle.laws.specs.Effects.{answer-length}
 use Rattle.model.specs.Record.{recordLength, decode}
 use Rattle.laws.specs.RecordLaws.{accepted}
+use Rattle.laws.specs.Sane.{good-check}
 use Rattle.model.specs.Session.{onDecoded, logged, after}
 use Rattle.model.specs.Single.{activeBelow, stateInRange, checkOf, check, apply, admit, command}
 use Rattle.properties.specs.SessionLaws.{refusal-nonzero}
@@ -25,6 +26,7 @@ use Rattle.properties.specs.ConditionsLaws.{first-append, Numbered, numb
 use Rattle.properties.specs.ConditionsLaws.{record-numbered, first-record, decode-answer}
 use Rattle.properties.specs.CallConditions.{wrongCardLength, wrongFuseByte, selectorAbove, wrongState, givenConditions, endConditions, callConditions}
 use Rattle.properties.specs.AcceptedSession.{leaving}
+use Rattle.properties.specs.TriesLaws.{handing}
 
 -- ---- 12
 
@@ -113,7 +115,7 @@ checks-pass c s n = rw (n .0, n .1 .0, sym (wrong-state s) ∙ n .1 .1 .0)
 abbrev Carried : List ℕ → Volatile → List ℕ → List ℕ → Type 0
 Carried c s bytes space =
     (k : Command) × (decode bytes ≡ whole k (length bytes))
-    × (command c s (calling bytes space) ≡ leaving (after (powered c s) k) (logged (powered c s) k .response) space)
+    × (command c s (calling bytes space) ≡ leaving k (after (powered c s) k) (logged (powered c s) k .response) space)
 
 pub carries : (c : List ℕ) (s : Volatile) (bytes space : List ℕ) → NoneApplies (callConditions c s bytes space) → Carried c s bytes space
 carries c s bytes space clean = on-record (decode bytes) refl
@@ -136,5 +138,6 @@ carries c s bytes space clean = on-record (decode bytes) refl
           k,
           e ∙ ap (whole k) ends,
           carried-out check decode apply c s (calling bytes space) k n
-              (record { checks = checks-pass c s (given .0); decodes = e; exactly = omega arith; fits = omega arith }),
+              (record { checks = checks-pass c s (given .0); decodes = e; exactly = omega arith; fits = omega arith })
+              ∙ handing c s k (good-check c s (checks-pass c s (given .0)) .long) space,
         )

@@ -22,6 +22,7 @@ use Rattle.properties.specs.AcceptedSession.{Accepts, Every, commandAt, 
 use Rattle.properties.specs.SessionLaws.{read-first}
 use Rattle.properties.specs.AcceptedSessionLaws.{framed-well, card-good}
 use Rattle.properties.specs.ReadBack.{all-fields, answer-back}
+use Rattle.properties.specs.TriesLaws.{handing}
 
 -- record k is command k, and its bytes alone are that record
 pub next-is : (n : ℕ) (s : List ℕ) (i : ℕ) (ks : List Command) (j : ℕ) → readFrom n s i ≡ all ks j → (k : ℕ) → k < n
@@ -54,18 +55,20 @@ reached-good (x ∷ ks) m (suc k) f g = reached-good ks (after m x) k (f .1) (go
 module _ (s log : List ℕ) (ks : List Command) (bytes : Bytes s) (a : Accepts s log ks) where
   pub one-record : (k : ℕ) → k < countOf s → (space : List ℕ) → length (answerIn (logOf s ks) (find (logOf s ks) k)) ≤ length space
       → command (reached ks (initial s) k .card) (reached ks (initial s) k .state) (calling (recordAt s (placePast k s (startOf s))) space)
-      ≡ leaving (reached ks (initial s) (suc k)) (answerIn (logOf s ks) (find (logOf s ks) k)) space
+      ≡ leaving (commandAt ks k) (reached ks (initial s) (suc k)) (answerIn (logOf s ks) (find (logOf s ks) k)) space
   one-record k h space room =
       let m : Powered Volatile = reached ks (initial s) k in
       let r : List ℕ = recordAt s (placePast k s (startOf s)) in
       let q = answer-back s log ks bytes a k h in
       let fields = all-fields s log ks bytes a in
+      let good = reached-good ks (initial s) k (fields .every) (card-good s (framed-well s (a .frames))) in
       let admitted : Admitted check decode apply (m .card) (m .state) (calling r space) (commandAt ks k) (recordLength (partAt s (placePast k s (startOf s)))) =
       record {
-        checks = check-good (m .card) (m .state) (reached-good ks (initial s) k (fields .every) (card-good s (framed-well s (a .frames))));
+        checks = check-good (m .card) (m .state) good;
         decodes = record-is s (placePast k s (startOf s)) (commandAt ks k) (next-is (countOf s) s (startOf s) ks (recordsEnd (length s)) (a .reads) k h);
         exactly = let l = length-take (recordLength (partAt s (placePast k s (startOf s)))) (partAt s (placePast k s (startOf s))) in omega arith;
         fits = rw q at room;
       } in
       carried-out check decode apply (m .card) (m .state) (calling r space) (commandAt ks k) _ admitted
+      ∙ handing (m .card) (m .state) (commandAt ks k) (good .long) space
       ∙ rw (q, reached-after ks (initial s) k (rw (fields .number) h))

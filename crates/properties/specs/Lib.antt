@@ -12,12 +12,14 @@ pub mod CallAcceptance
 pub mod Refused
 pub mod OneCommand
 pub mod LogReading
+pub mod TriesLeft
 pub mod SessionSecrecy
 -- what proves them: of sessions and of refusals
 pub mod SessionLaws
 pub mod AcceptedSessionLaws
 pub mod Edges
 pub mod RefusedLaws
+pub mod TriesLaws
 pub mod ConditionsLaws
 pub mod SessionConditionsLaws
 pub mod CallConditionsLaws

@@ -10,14 +10,15 @@ use Rattle.model.specs.Log.{find, answerIn}
 use Rattle.model.specs.Session.{startOf, countOf, initial, logOf}
 use Rattle.model.specs.Single.{command}
 use Rattle.properties.specs.SessionConditions.{placePast}
-use Rattle.properties.specs.AcceptedSession.{Accepts, reached, recordAt, leaving}
+use Rattle.properties.specs.AcceptedSession.{Accepts, commandAt, reached, recordAt, leaving}
 use Rattle.properties.specs.EachRecord.{one-record}
 
 -- a session of bytes that is accepted with the commands ks
 module _ (s log : List ℕ) (ks : List Command) (bytes : Bytes s) (a : Accepts s log ks) where
   -- On the card, and in the state, to which the records before record k have led, given the bytes of record k and enough space, a
-  -- single command gives the response that the log holds for k, and leaves the card and the state before record k + 1.
+  -- single command gives the response that the log holds for k, and leaves the card and the state before record k + 1. What it hands
+  -- out are the tries left on that card, of the counter that record k used.
   pub single : (k : ℕ) → k < countOf s → (space : List ℕ) → length (answerIn (logOf s ks) (find (logOf s ks) k)) ≤ length space
       → command (reached ks (initial s) k .card) (reached ks (initial s) k .state) (calling (recordAt s (placePast k s (startOf s))) space)
-      ≡ leaving (reached ks (initial s) (suc k)) (answerIn (logOf s ks) (find (logOf s ks) k)) space
+      ≡ leaving (commandAt ks k) (reached ks (initial s) (suc k)) (answerIn (logOf s ks) (find (logOf s ks) k)) space
   single = one-record s log ks bytes a

@@ -1,7 +1,7 @@
 -- Of two sessions that agree outside secret places of their cards: from demand 3 of lists of calls, their runs are alike.
 use Prim.Native.Nat.{ℕ, zero, suc, _+_, _-_, _≤_, _<_, min}
 use mathlib.Core.Bool.{Bool, true, false, cond, not, _&&_}
-use mathlib.Core.List.{List, _++_, append-assoc}
+use mathlib.Core.List.{List, [], _++_, append-assoc}
 use mathlib.Core.Path.{_≡_, refl, sym, ap, subst, _∙_}
 use native.Mathlib.Omega.{arith}
 use borrow.Author.Tests.{ltb-true, ltb-false, leb-true, leb-false, le-leb, eqb-true}
@@ -11,6 +11,8 @@ use lib.Seq.{getD-append-add, length-take-le, getD-take}
 use Rattle.model.specs.Sizes.{cardSize, fuseAt, leastLog}
 use Rattle.model.specs.Lists.{at}
 use Rattle.model.specs.Command.{Command}
+use Rattle.model.specs.Device.{counterPlace}
+use Rattle.model.specs.At88sc1608.{at88sc1608}
 use Rattle.model.specs.Access.{rpe, ate, passwordSet}
 use Rattle.model.specs.Call.{Call}
 use Rattle.model.specs.Log.{Entry, entriesBytes, logTrailer, logBytes}
@@ -25,10 +27,10 @@ use Rattle.secrecy.specs.ReadPassword as read
 use Rattle.secrecy.specs.Authentication as authentication
 use Rattle.secrecy.specs.CardSecrecy as calls
 use Rattle.properties.specs.AcceptedSession.{Accepts, accepting}
-use Rattle.properties.specs.SessionSecret.{inFinalCard, RunAlike, EveryRecord}
+use Rattle.properties.specs.SessionSecret.{inFinalCard, RunAlike, triesIn, RecordsAlike, SessionsAlike, EveryRecord}
 use Rattle.properties.specs.SessionLaws.{end-length, entries-long}
 use Rattle.properties.specs.AcceptedSessionLaws.{framed-well, card-good}
-use Rattle.properties.specs.AsCalls.{callsFrom, entriesFrom, Same, as-calls}
+use Rattle.properties.specs.AsCalls.{callsFrom, entriesFrom, triesFrom, Same, as-calls}
 use Rattle.properties.specs.Alike.{frame-same, read-same, calls-same, start-same, count-same}
 
 -- ---- lists that agree outside a part in their midst
@@ -69,6 +71,10 @@ module _ (hidden : ℕ → Bool) where
           List·getD-append e (c₁ ++ x) 0 i l ∙ sym (List·getD-append e (c₂ ++ x) 0 i l)
 
 -- ---- from lists of calls to sessions
+
+abbrev commands : Read → List Command
+commands (stopped n) = []
+commands (all ks i) = ks
 
 agree-self : (hidden : ℕ → Bool) (l : List ℕ) → AgreeOutside hidden l l
 agree-self hidden l = record { long = refl; same = λ i h. refl }
@@ -157,15 +163,34 @@ module _ (hidden : ℕ → Bool) (in-card : (i : ℕ) → fuseAt ≤ i → hidde
         sym (same₁ .entries) ∙ ap (entriesFrom ks) (indistinguishable .observed)
         ∙ ap (λ (xs : List Call). entriesFrom ks (replies xs (initial s₂))) xs-same ∙ same₂ .entries
 
+    tries-same : triesIn ks (initial s₁) ≡ triesIn ks (initial s₂)
+    tries-same =
+        sym (same₁ .tries) ∙ ap triesFrom (indistinguishable .observed)
+        ∙ ap (λ (xs : List Call). triesFrom (replies xs (initial s₂))) xs-same ∙ same₂ .tries
+
     card-long : length (endOf ks (initial s₁) .card) ≡ cardSize
     card-long = end-length ks (initial s₁) ∙ length-take-le cardSize s₁ (let l = long in omega arith)
+
+    -- what the lists of calls leave alike at a place, the sessions do
+    place-same : (i : ℕ) → at (final xs₁ (initial s₁) .card) i ≡ at (final xs₁ (initial s₂) .card) i
+        → at (endOf ks (initial s₁) .card) i ≡ at (endOf ks (initial s₂) .card) i
+    place-same i e =
+        (λ t. at (sym (same₁ .ends) t .card) i) ∙ e ∙ (λ t. at (final (xs-same t) (initial s₂) .card) i) ∙ (λ t. at (same₂ .ends t .card) i)
 
     cards-agree : AgreeOutside hidden (endOf ks (initial s₁) .card) (endOf ks (initial s₂) .card)
     cards-agree =
         record {
           long = card-long ∙ sym (end-length ks (initial s₂) ∙ length-take-le cardSize s₂ (let l = long in let w = agree .long in omega arith));
-          same = λ i h. (λ t. at (sym (same₁ .ends) t .card) i) ∙ indistinguishable .outside i h
-              ∙ (λ t. at (final (xs-same t) (initial s₂) .card) i) ∙ (λ t. at (same₂ .ends t .card) i);
+          same = λ i h. place-same i (indistinguishable .outside i h);
+        }
+
+    records-alike : RecordsAlike hidden ks ks (initial s₁) (initial s₂)
+    records-alike =
+        record {
+          entries = entries-same;
+          tries = tries-same;
+          counters = λ n. place-same (counterPlace at88sc1608 n) (indistinguishable .counters n);
+          cards = cards-agree;
         }
 
     logs-alike : RunAlike hidden (accepting (logOf s₁ ks) space) (accepting (logOf s₂ ks) space)
@@ -208,22 +233,33 @@ module _ (hidden : ℕ → Bool) (in-card : (i : ℕ) → fuseAt ≤ i → hidde
       (cond (not (eqb j (recordsEnd n))) (rejected bytesLeft space) (written (logOf s₂ ks) space))) (agree .long)
       (on-end ks j (eqb j (recordsEnd (length s₁))) f r₁ r₂ refl)
 
-  on-frame : (n : ℕ) → frame s₁ ≡ n → RunAlike hidden (framed s₁ space n) (framed s₂ space n)
-  on-frame zero f =
+  reads-same : frame s₁ ≡ 0 → readFrom (countOf s₁) s₁ (startOf s₁) ≡ readFrom (countOf s₂) s₂ (startOf s₂)
+  reads-same f =
       let w = framed-well s₁ f in
       let l : leastLog ≤ length s₁ = w .long in
       let low = w .low in
-      let q : readFrom (countOf s₁) s₁ (startOf s₁) ≡ readFrom (countOf s₂) s₂ (startOf s₂) =
       read-same hidden in-card s₁ s₂ agree (countOf s₁) (startOf s₁) (omega arith)
-      ∙ (λ t. readFrom (count-same hidden in-card s₁ s₂ agree l t) s₂ (start-same hidden in-card s₁ s₂ agree l t)) in
+      ∙ (λ t. readFrom (count-same hidden in-card s₁ s₂ agree l t) s₂ (start-same hidden in-card s₁ s₂ agree l t))
+
+  on-frame : (n : ℕ) → frame s₁ ≡ n → RunAlike hidden (framed s₁ space n) (framed s₂ space n)
+  on-frame zero f =
+      let q = reads-same f in
       subst (λ (r : Read). RunAlike hidden (framed s₁ space 0) (ended s₂ space r)) q (on-read (readFrom (countOf s₁) s₁ (startOf s₁)) f refl (sym q))
   on-frame (suc n) f = rejected-alike hidden (suc n) space
 
-  pub alike : RunAlike hidden (run s₁ space) (run s₂ space)
+  runs-alike : RunAlike hidden (run s₁ space) (run s₂ space)
   unfolding run
-  alike =
+  runs-alike =
       subst (λ (n : ℕ). RunAlike hidden (framed s₁ space (frame s₁)) (framed s₂ space n)) (frame-same hidden in-card s₁ s₂ agree)
       (on-frame (frame s₁) refl)
+
+  pub alike : SessionsAlike hidden s₁ s₂ space
+  alike = record { runs = runs-alike; records = λ ks₁ ks₂ a₁ a₂. same-records ks₁ ks₂ a₁ a₂ }
+    where
+      same-records : (ks₁ ks₂ : List Command) → Accepts s₁ space ks₁ → Accepts s₂ space ks₂ → RecordsAlike hidden ks₁ ks₂ (initial s₁) (initial s₂)
+      same-records ks₁ ks₂ a₁ a₂ =
+          let q = sym (reads-same (a₁ .frames)) ∙ a₁ .reads in
+          subst (λ (ks : List Command). RecordsAlike hidden ks₁ ks (initial s₁) (initial s₂)) (ap commands (sym q ∙ a₂ .reads)) (records-alike ks₁ a₁ q)
 
 -- ---- the AT88SC1608
 
@@ -247,7 +283,7 @@ start-agree hidden s₁ s₂ a =
 pub read-claim : (z : ℕ) → z < 8 → (s₁ s₂ : List ℕ) → Sealed (cardOf s₁) → Sealed (cardOf s₂) → rpe (register (cardOf s₁) z) ≡ true
     → AgreeOutside (inZoneOrPasswords z (passwordSet (register (cardOf s₁) z))) s₁ s₂
     → (space : List ℕ) → EveryRecord (PresentsNeither (passwordSet (register (cardOf s₁) z)) (cardOf s₁) (cardOf s₂)) s₁ space
-    → RunAlike (inZoneOrPasswords z (passwordSet (register (cardOf s₁) z))) (run s₁ space) (run s₂ space)
+    → SessionsAlike (inZoneOrPasswords z (passwordSet (register (cardOf s₁) z))) s₁ s₂ space
 read-claim z zl s₁ s₂ sealed₁ sealed₂ demanded agree space every =
     let p : ℕ = passwordSet (register (cardOf s₁) z) in
     let hidden : ℕ → Bool = inZoneOrPasswords z p in
@@ -256,7 +292,7 @@ read-claim z zl s₁ s₂ sealed₁ sealed₂ demanded agree space every =
     (calls.read-password z zl (cardOf s₁) (cardOf s₂) sealed₁ sealed₂ demanded (start-agree hidden s₁ s₂ agree)) space every
 
 pub authentication-claim : (z : ℕ) → z < 8 → (s₁ s₂ : List ℕ) → Sealed (cardOf s₁) → Sealed (cardOf s₂) → ate (register (cardOf s₁) z) ≡ true
-    → AgreeOutside (inZone z) s₁ s₂ → (space : List ℕ) → EveryRecord AcceptsNot s₁ space → RunAlike (inZone z) (run s₁ space) (run s₂ space)
+    → AgreeOutside (inZone z) s₁ s₂ → (space : List ℕ) → EveryRecord AcceptsNot s₁ space → SessionsAlike (inZone z) s₁ s₂ space
 authentication-claim z zl s₁ s₂ sealed₁ sealed₂ demanded agree space every =
     alike (inZone z) (λ i h. authentication.not-hidden z i zl (omega arith)) s₁ s₂ agree
     AcceptsNot (calls.authentication-demanded z zl (cardOf s₁) (cardOf s₂) sealed₁ sealed₂ demanded (start-agree (inZone z) s₁ s₂ agree)) space every

@@ -1,12 +1,19 @@
--- The words of demand 3 said of sessions: what is hidden in a log, runs that are not told apart, and a condition on every record.
+-- The words of demand 3 said of sessions: what is hidden in a log, runs and records that are not told apart, and a condition on every
+-- record.
 use Prim.Native.Nat.{ℕ, _-_}
 use mathlib.Core.Bool.{Bool, _&&_}
-use mathlib.Core.List.{List}
+use mathlib.Core.List.{List, [], _∷_}
 use mathlib.Core.Path.{_≡_}
 use lib.Dec.{leb}
 use Rattle.model.specs.Sizes.{leastLog}
+use Rattle.model.specs.Lists.{at}
+use Rattle.model.specs.Volatile.{Volatile}
 use Rattle.model.specs.Command.{Command}
-use Rattle.model.specs.Session.{Ran}
+use Rattle.model.specs.Device.{Counter, counterPlace}
+use Rattle.model.specs.At88sc1608.{at88sc1608}
+use Rattle.model.specs.Call.{Powered}
+use Rattle.model.specs.Single.{apply}
+use Rattle.model.specs.Session.{after, entriesOf, endOf, initial, Ran, run}
 use Rattle.secrecy.specs.Secret.{AgreeOutside}
 use Rattle.properties.specs.AcceptedSession.{Accepts, Every}
 
@@ -19,6 +26,23 @@ pub record RunAlike (hidden : ℕ → Bool) (r₁ r₂ : Ran) : Type 0 where
   pub refusal : r₁ .refusal ≡ r₂ .refusal
   pub size : r₁ .size ≡ r₂ .size
   pub outside : AgreeOutside (inFinalCard hidden (r₁ .size)) (r₁ .space) (r₂ .space)
+
+-- the tries that each command of a list hands out, from a card and a state on
+abbrev pub triesIn : List Command → Powered Volatile → List ℕ
+triesIn [] m = []
+triesIn (k ∷ ks) m = apply (m .card) (m .state) k .report .tries ∷ triesIn ks (after m k)
+
+-- two lists of commands that are not told apart: each logs and hands out the same, and the cards left have equal counters and agree
+pub record RecordsAlike (hidden : ℕ → Bool) (ks₁ ks₂ : List Command) (m₁ m₂ : Powered Volatile) : Type 0 where
+  pub entries : entriesOf ks₁ m₁ ≡ entriesOf ks₂ m₂
+  pub tries : triesIn ks₁ m₁ ≡ triesIn ks₂ m₂
+  pub counters : (n : Counter) → at (endOf ks₁ m₁ .card) (counterPlace at88sc1608 n) ≡ at (endOf ks₂ m₂ .card) (counterPlace at88sc1608 n)
+  pub cards : AgreeOutside hidden (endOf ks₁ m₁ .card) (endOf ks₂ m₂ .card)
+
+-- two sessions that are not told apart: their runs, and if both are accepted their records
+pub record SessionsAlike (hidden : ℕ → Bool) (s₁ s₂ space : List ℕ) : Type 0 where
+  pub runs : RunAlike hidden (run s₁ space) (run s₂ space)
+  pub records : (ks₁ ks₂ : List Command) → Accepts s₁ space ks₁ → Accepts s₂ space ks₂ → RecordsAlike hidden ks₁ ks₂ (initial s₁) (initial s₂)
 
 -- every record that a session runs meets a condition
 abbrev pub EveryRecord : (Command → Type 0) → List ℕ → List ℕ → Type 0

@@ -104,9 +104,12 @@ agree-set hidden b c i v h t =
 agree-self : (hidden : ℕ → Bool) (b : List ℕ) → AgreeOutside hidden b b
 agree-self hidden b = record { long = refl; same = λ j o. refl }
 
--- what is computed of a run: the refusals, the first byte of a response space, a byte of the final card
+-- what is computed of a run: the refusals, the tries, the first byte of a response space, a byte of the final card
 abbrev pub refusals : List Call → List ℕ → List ℕ
 refusals xs b = map (λ r. r .refusal) (replies xs (powered b powerUp))
+
+abbrev handed : List Call → List ℕ → List ℕ
+handed xs b = map (λ r. r .tries) (replies xs (powered b powerUp))
 
 abbrev answered : ℕ → List (Reply Volatile) → ℕ
 answered n rs = at (getD (map (λ r. r .space) rs) n []) 0
@@ -159,6 +162,10 @@ pub read-refusals : refusals readCalls readCard ≡ 0 ∷ 0 ∷ 0 ∷ 0 ∷ 7 �
 unfolding computed
 read-refusals = refl
 
+pub read-tries : handed readCalls readCard ≡ 0 ∷ 0 ∷ 0 ∷ 0 ∷ 0 ∷ 0 ∷ 7 ∷ 8 ∷ 0 ∷ 0 ∷ 0 ∷ []
+unfolding computed
+read-tries = refl
+
 pub read-differs : (finalByte 512 readCalls readCard ≡ 0x11) × (finalByte 512 readCalls readCard′ ≡ 0x22)
 unfolding computed
 read-differs = (refl, refl)
@@ -170,6 +177,14 @@ readOpened = call (3 ∷ 2 ∷ []) 0 ∷ call (10 ∷ 3 ∷ 0xFF ∷ 0xFF ∷ 0x
 pub read-needed : Indistinguishable (inZoneOrPasswords 2 3) readOpened readCard readCard′ → ⊥
 unfolding computed
 read-needed i = let e : _≡_ {A = ℕ} 0x11 0 = ap (answered 2) (i .observed) in omega arith
+
+-- and so do the tries alone: eight are left on the one card, seven on the other
+abbrev readTried : List Call
+readTried = call (10 ∷ 3 ∷ 0xFF ∷ 0xFF ∷ 0xFF ∷ []) 0 ∷ []
+
+pub tries-needed : Indistinguishable (inZoneOrPasswords 2 3) readTried readCard readCard′ → ⊥
+unfolding computed
+tries-needed i = let e : _≡_ {A = ℕ} 8 7 = ap (λ (rs : List (Reply Volatile)). at (map (λ r. r .tries) rs) 0) (i .observed) in omega arith
 
 -- ---- authentication
 
@@ -208,6 +223,10 @@ auth-example =
 pub auth-refusals : refusals authCalls authCard ≡ 0 ∷ 0 ∷ 0 ∷ 0 ∷ 0 ∷ 0 ∷ 8 ∷ 7 ∷ 0 ∷ []
 unfolding computed
 auth-refusals = refl
+
+pub auth-tries : handed authCalls authCard ≡ 0 ∷ 0 ∷ 0 ∷ 7 ∷ 0 ∷ 6 ∷ 0 ∷ 0 ∷ 0 ∷ []
+unfolding computed
+auth-tries = refl
 
 pub auth-differs : (finalByte 256 authCalls authCard ≡ 0x11) × (finalByte 256 authCalls authCard′ ≡ 0x22)
 unfolding computed

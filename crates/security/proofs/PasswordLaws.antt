@@ -1,44 +1,22 @@
--- Password verification of the model in the terms of the code, and from what its tests found.
+-- Password verification, from what its tests found.
 use Prim.Native.Nat.{ℕ, _+_}
-use Rattle.security.specs.Password.{activeAfter, cardAfter}
+use Rattle.security.specs.Password.{settled}
 use Rattle.model.specs.Apply as any
-use Rattle.model.specs.Apply.{attemptOf, password, presented}
+use Rattle.model.specs.Apply.{password}
 use Rattle.model.specs.At88sc1608.{at88sc1608, counterAt, passwordByte}
-use Rattle.model.specs.Bits.{spentCounter}
+use Rattle.model.specs.Bits.{triesLeft}
+use Rattle.model.specs.Device.{Spent, spent}
 use Rattle.model.specs.Command.{verifyPassword}
 use Rattle.model.specs.Lists.{at, sameList, tab}
 use Rattle.model.specs.Single.{apply}
-use Rattle.model.specs.Volatile.{Volatile, Active, none, selector, activating}
+use Rattle.model.specs.Volatile.{Volatile, none, selector, activating}
 use borrow.Author.Tests.{eq-eqb, ne-eqb}
 use lib.Dec.{eqb}
 use lib.ListN.{length, set}
-use mathlib.Core.Bool.{Bool, true, false, _&&_, cond}
+use mathlib.Core.Bool.{Bool, true, false, _&&_}
 use mathlib.Core.List.{List, [], _∷_}
 use mathlib.Core.Path.{_≡_, refl, ap, _∙_}
 use native.Mathlib.Omega.{arith}
-
--- ---- the model's verification by cases
-
-pub verify-card : (c : List ℕ) (s : Volatile) (k : ℕ) (xs : List ℕ)
-    → cardAfter c k (sameList xs (password at88sc1608 c k)) ≡ apply c s (verifyPassword k xs) .card
-unfolding any.apply cardAfter
-verify-card c s k xs = go (eqb (at c (counterAt k)) 0) (sameList xs (password at88sc1608 c k))
-  where
-    go : (l r : Bool) → cond l c (cond r (set c (counterAt k) 255) (set c (counterAt k) (spentCounter (at c (counterAt k)))))
-        ≡ presented at88sc1608 (attemptOf l r) c s k .card
-    go true r = refl
-    go false true = refl
-    go false false = refl
-
-pub verify-state : (c : List ℕ) (s : Volatile) (k : ℕ) (xs : List ℕ)
-    → activating s (activeAfter c k (sameList xs (password at88sc1608 c k)) (s .active)) ≡ apply c s (verifyPassword k xs) .report .state
-unfolding any.apply activeAfter
-verify-state c s k xs = go (eqb (at c (counterAt k)) 0) (sameList xs (password at88sc1608 c k))
-  where
-    go : (l r : Bool) → activating s (cond l (s .active) (cond r (selector k) none)) ≡ presented at88sc1608 (attemptOf l r) c s k .state
-    go true r = refl
-    go false true = refl
-    go false false = refl
 
 -- three bytes are compared one by one
 pub same-three : (xs : List ℕ) (f : ℕ → ℕ) → length xs ≡ 3
@@ -76,26 +54,29 @@ module _ (xs c : List ℕ) (k i : ℕ) (long : length xs ≡ 3) (place : i ≡ c
 
 -- ---- the counter and the active password afterwards
 
-module _ (c : List ℕ) (k i : ℕ) (right : Bool) (a : Active) (place : i ≡ counterAt k) where
-  pub after-locked : at c i ≡ 0 → (a ≡ activeAfter c k right a) × (c ≡ cardAfter c k right)
-  unfolding activeAfter cardAfter
-  after-locked e = rw (← place, eq-eqb _ _ e) (refl, refl)
+module _ (c : List ℕ) (s : Volatile) (k i : ℕ) (right : Bool) (place : i ≡ counterAt k) where
+  left : (at c i ≡ 0 → ⊥) → at c (counterAt k) ≡ 0 → ⊥
+  left n e = n (ap (at c) place ∙ e)
 
-  pub after-right : (at c i ≡ 0 → ⊥) → right ≡ true → (selector k ≡ activeAfter c k right a) × (set c i 255 ≡ cardAfter c k right)
-  unfolding activeAfter cardAfter
-  after-right n r = rw (← place, ne-eqb _ _ n, r) (refl, refl)
+  pub settled-locked : at c i ≡ 0 → (record { state = s; answer = []; tries = 0 } ≡ settled c s k right .report) × (c ≡ settled c s k right .card)
+  unfolding settled
+  settled-locked e = rw (← place, eq-eqb _ _ e) (refl, refl)
 
-  pub after-wrong : (v : ℕ) → (at c i ≡ 0 → ⊥) → right ≡ false → v ≡ spentCounter (at c i)
-      → (none ≡ activeAfter c k right a) × (set c i v ≡ cardAfter c k right)
-  unfolding activeAfter cardAfter
-  after-wrong v n r e = rw (e, ← place, ne-eqb _ _ n, r) (refl, refl)
+  pub settled-right : (t : Volatile) → (at c i ≡ 0 → ⊥) → right ≡ true → t ≡ activating s (selector k)
+      → (record { state = t; answer = []; tries = 8 } ≡ settled c s k right .report) × (set c i 255 ≡ settled c s k right .card)
+  unfolding settled triesLeft
+  settled-right t n r q = rw (place, ne-eqb _ _ (left n), r, q) (refl, refl)
+
+  pub settled-wrong : (t : Volatile) (v : Spent) → (at c i ≡ 0 → ⊥) → right ≡ false → v ≡ spent at88sc1608 (at c i) → t ≡ activating s none
+      → (record { state = t; answer = []; tries = v .tries } ≡ settled c s k right .report) × (set c i (v .value) ≡ settled c s k right .card)
+  unfolding settled
+  settled-wrong t v n r e q =
+      let w = e ∙ ap (λ (j : ℕ). spent at88sc1608 (at c j)) place in
+      rw (place, ne-eqb _ _ (left n), r) ((λ j. record { state = q j; answer = []; tries = w j .tries }), λ j. set c (counterAt k) (w j .value))
 
 -- ---- verify password
 
-pub verified : (c d : List ℕ) (s t : Volatile) (k : ℕ) (xs : List ℕ) (right : Bool) (a : Active) → right ≡ sameList xs (password at88sc1608 c k)
-    → a ≡ activeAfter c k right (s .active) → d ≡ cardAfter c k right → t ≡ activating s a
-    → (t ≡ apply c s (verifyPassword k xs) .report .state) × (d ≡ apply c s (verifyPassword k xs) .card)
-verified c d s t k xs right a r e q w = (
-  w ∙ ap (activating s) e ∙ ap (λ (b : Bool). activating s (activeAfter c k b (s .active))) r ∙ verify-state c s k xs,
-  q ∙ ap (cardAfter c k) r ∙ verify-card c s k xs,
-)
+pub verified : (c : List ℕ) (s : Volatile) (k : ℕ) (xs : List ℕ) (right : Bool) → right ≡ sameList xs (password at88sc1608 c k)
+    → settled c s k right ≡ apply c s (verifyPassword k xs)
+unfolding any.apply settled
+verified c s k xs right e = ap (settled c s k) e

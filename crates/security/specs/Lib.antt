@@ -1,2 +1,4 @@
+pub mod Report
+pub mod Counter
 pub mod Password
 pub mod Cryptogram

@@ -1,12 +1,15 @@
 // Authentication: begun by the host, judged by the session's verdict.
 ghost use mathlib.Core.Path.{_≡_};
+ghost use mathlib.Core.List.{[]};
 ghost use lib.ListN.{length};
 ghost use Rattle.model.specs.Sizes.{cardSize};
 ghost use Rattle.model.specs.Command.{beginAuthentication, verifyAuthentication};
 ghost use Rattle.model.specs.Single.{apply};
 ghost use Rattle.security.specs.Cryptogram.{renewed};
 ghost use Rattle.access.specs.State.{volatileOf};
-use crate::counter;
+ghost use Rattle.security.specs.Report.{reportOf};
+use crate::counter::spent;
+use crate::report::Report;
 use access::volatile::Authentication;
 use access::volatile::Volatile;
 use access::volatile::authenticating;
@@ -15,17 +18,21 @@ use sizes::ATTEMPTS;
 use sizes::CRYPTOGRAM;
 
 // helper: begin authentication.
-pub fn begin_authentication(card: &mut [u8], state: Volatile) -> Volatile
+pub fn begin_authentication(card: &mut [u8], state: Volatile) -> Report
     requires { ⌜ length (now card) ≡ cardSize ⌝ }
-    ensures state { λ r. ⌜ volatileOf r ≡ apply (now (card .entry)) (volatileOf state) beginAuthentication .report .state ⌝ }
+    ensures report { λ r. ⌜ reportOf r [] ≡ apply (now (card .entry)) (volatileOf state) beginAuthentication .report ⌝ }
     ensures card { λ r. ⌜ now (card .exit) ≡ apply (now (card .entry)) (volatileOf state) beginAuthentication .card ⌝ }
 {
     let count = card[ATTEMPTS];
     if count == 0 {
-        return state;
+        return Report { state, tries: 0 };
     }
-    card[ATTEMPTS] = counter::spent(count);
-    authenticating(state, Authentication::Begun)
+    let after = spent(count);
+    card[ATTEMPTS] = after.value;
+    Report {
+        state: authenticating(state, Authentication::Begun),
+        tries: after.tries,
+    }
 }
 
 // The eight bytes become the cryptogram.
@@ -46,19 +53,25 @@ pub fn verify_authentication(
     state: Volatile,
     verdict: bool,
     bytes: &[u8],
-) -> Volatile
+) -> Report
     requires { ⌜ (length (now card) ≡ cardSize) × (length (now bytes) ≡ 8) ⌝ }
-    ensures state { λ r. ⌜ volatileOf r ≡ apply (now (card .entry)) (volatileOf state) (verifyAuthentication verdict (now (bytes .entry))) .report .state ⌝ }
+    ensures report { λ r. ⌜ reportOf r [] ≡ apply (now (card .entry)) (volatileOf state) (verifyAuthentication verdict (now (bytes .entry))) .report ⌝ }
     ensures card { λ r. ⌜ now (card .exit) ≡ apply (now (card .entry)) (volatileOf state) (verifyAuthentication verdict (now (bytes .entry))) .card ⌝ }
 {
     let authentication = state.authentication;
     if !is_begun(authentication) {
-        return state;
+        return Report { state, tries: 0 };
     }
     if verdict {
         renew(card, bytes);
         card[ATTEMPTS] = 255;
-        return authenticating(state, Authentication::Granted);
+        return Report {
+            state: authenticating(state, Authentication::Granted),
+            tries: 0,
+        };
     }
-    authenticating(state, Authentication::Idle)
+    Report {
+        state: authenticating(state, Authentication::Idle),
+        tries: 0,
+    }
 }

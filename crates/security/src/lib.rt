@@ -3,3 +3,4 @@ pub mod authentication;
 pub mod counter;
 pub mod fuse;
 pub mod password;
+pub mod report;

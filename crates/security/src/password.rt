@@ -1,27 +1,22 @@
 // Password verification: decide, then act.
 ghost use mathlib.Core.Path.{_≡_};
-ghost use Prim.Native.Nat.{_+_};
+ghost use mathlib.Core.List.{[]};
 ghost use lib.ListN.{length};
 ghost use Rattle.model.specs.Sizes.{cardSize};
 ghost use Rattle.model.specs.Lists.{sameList};
 ghost use Rattle.model.specs.Apply.{password};
-ghost use Rattle.model.specs.At88sc1608.{at88sc1608, counterAt};
+ghost use Rattle.model.specs.At88sc1608.{at88sc1608};
 ghost use Rattle.model.specs.Command.{verifyPassword};
 ghost use Rattle.model.specs.Single.{apply};
-ghost use Rattle.security.specs.Password.{activeAfter, cardAfter};
-ghost use Rattle.access.specs.State.{activeOf, volatileOf};
-use crate::counter;
+ghost use Rattle.security.specs.Password.{settled};
+ghost use Rattle.access.specs.State.{volatileOf};
+ghost use Rattle.security.specs.Report.{reportOf};
+use crate::counter::counter_at;
+use crate::counter::spent;
+use crate::report::Report;
 use access::volatile::Active;
 use access::volatile::Volatile;
 use access::volatile::activating;
-
-// Where the attempts counter of a selector lies; its password follows.
-fn counter_at(selector: u8) -> usize
-    ensures { λ r. ⌜ r ≡ counterAt selector ⌝ }
-{
-    let k = selector as usize;
-    2112 + k % 8 * 8 + k / 8 % 2 * 4
-}
 
 // Whether three bytes are the password of a selector.
 fn is_password(card: &[u8], selector: u8, bytes: &[u8]) -> bool
@@ -38,33 +33,38 @@ fn is_password(card: &[u8], selector: u8, bytes: &[u8]) -> bool
     bytes[2] == card[at + 3]
 }
 
-// The counter of a presentation moves, and the password that is then active is given.
-fn settle(card: &mut [u8], selector: u8, right: bool, active: Active) -> Active
+// The counter of a presentation moves, and with it the active password.
+fn settle(card: &mut [u8], state: Volatile, selector: u8, right: bool) -> Report
     requires { ⌜ length (now card) ≡ cardSize ⌝ }
-    ensures active { λ r. ⌜ activeOf r ≡ activeAfter (now (card .entry)) selector right (activeOf active) ⌝ }
-    ensures card { λ r. ⌜ now (card .exit) ≡ cardAfter (now (card .entry)) selector right ⌝ }
+    ensures report { λ r. ⌜ reportOf r [] ≡ settled (now (card .entry)) (volatileOf state) selector right .report ⌝ }
+    ensures card { λ r. ⌜ now (card .exit) ≡ settled (now (card .entry)) (volatileOf state) selector right .card ⌝ }
 {
     let at = counter_at(selector);
     let count = card[at];
     if count == 0 {
-        return active;
+        return Report { state, tries: 0 };
     }
     if right {
         card[at] = 255;
-        return Active::Selector(selector);
+        return Report {
+            state: activating(state, Active::Selector(selector)),
+            tries: 8,
+        };
     }
-    card[at] = counter::spent(count);
-    Active::None
+    let after = spent(count);
+    card[at] = after.value;
+    Report {
+        state: activating(state, Active::None),
+        tries: after.tries,
+    }
 }
 
 // helper: verify password.
-pub fn verify_password(card: &mut [u8], state: Volatile, selector: u8, bytes: &[u8]) -> Volatile
+pub fn verify_password(card: &mut [u8], state: Volatile, selector: u8, bytes: &[u8]) -> Report
     requires { ⌜ (length (now card) ≡ cardSize) × (length (now bytes) ≡ 3) ⌝ }
-    ensures state { λ r. ⌜ volatileOf r ≡ apply (now (card .entry)) (volatileOf state) (verifyPassword selector (now (bytes .entry))) .report .state ⌝ }
+    ensures report { λ r. ⌜ reportOf r [] ≡ apply (now (card .entry)) (volatileOf state) (verifyPassword selector (now (bytes .entry))) .report ⌝ }
     ensures card { λ r. ⌜ now (card .exit) ≡ apply (now (card .entry)) (volatileOf state) (verifyPassword selector (now (bytes .entry))) .card ⌝ }
 {
     let right = is_password(card, selector, bytes);
-    let active = state.active;
-    let settled = settle(card, selector, right, active);
-    activating(state, settled)
+    settle(card, state, selector, right)
 }

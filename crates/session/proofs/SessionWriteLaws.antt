@@ -85,12 +85,13 @@ module _ (part : List ℕ) (m : Powered Volatile) (log : List ℕ) (place : ℕ)
             room = omega arith;
           })
 
-      pub entry-written : (c′ : List ℕ) (s′ : Volatile) (space′ : List ℕ) → Carried (m .card) (m .state) (commandOf part end kind) space c′ s′ space′
+      pub entry-written : (c′ : List ℕ) (s′ : Volatile) (tries : ℕ) (space′ : List ℕ)
+          → Carried (m .card) (m .state) (commandOf part end kind) space c′ s′ tries space′
           → EntryWritten part m log place c′ s′ (take (place + 3) log₁ ++ (space′ ++ drop size (drop (place + 3) log₁)))
-      entry-written c′ s′ space′ carried =
+      entry-written c′ s′ tries space′ carried =
           record { command = k; size = r .size; decodes = r .decodes; card = w .card; state = w .state; bytes = bytes }
         where
-          w : Carried (m .card) (m .state) k space c′ s′ space′
+          w : Carried (m .card) (m .state) k space c′ s′ tries space′
           w = rw command-is at carried
 
           answer : List ℕ

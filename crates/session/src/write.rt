@@ -39,7 +39,8 @@ fn write_entry(
     let record = made(head.kind, head.a, head.n);
     let end = record_length(head.kind, head.n);
     let from = place + 3;
-    carry_out(card, state, record, part, end, &mut log[from..])
+    let report = carry_out(card, state, record, part, end, &mut log[from..]);
+    report.state
 }
 
 // helper: count records from start on, run from power-up.

@@ -1,7 +1,7 @@
 // The sizes of the card, of sessions and of logs, each under one name.
 
-// The card's map: where the configuration starts, its access registers, the authentication attempts counter, the cryptogram,
-// the fuse byte; and the length of the whole.
+// The card's map: where the configuration starts, its access registers, the authentication attempts counter, the cryptogram, the
+// passwords with their attempts counters, the fuse byte; and the length of the whole.
 pub const CONFIGURATION: usize = 2048;
 
 pub const REGISTERS: usize = CONFIGURATION + 16;
@@ -10,9 +10,14 @@ pub const ATTEMPTS: usize = CONFIGURATION + 32;
 
 pub const CRYPTOGRAM: usize = CONFIGURATION + 40;
 
+pub const PASSWORDS: usize = CONFIGURATION + 64;
+
 pub const FUSES: usize = 2176;
 
 pub const CARD: usize = 2177;
+
+// How many attempts counters there are: one for each selector, and that of authentication.
+pub const COUNTERS: usize = 17;
 
 // What stands behind the records of a session, and behind the card of a log.
 pub const TRAILER: usize = 8;

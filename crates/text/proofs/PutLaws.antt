@@ -9,7 +9,7 @@ use lib.Seq.{length-sets, set-out, take-suc, length-take-le, take-all}
 use Rattle.laws.specs.NumberLaws.{sets-append}
 use Rattle.text.specs.Put.{Put}
 use Rattle.text.specs.Text.{hexDigit, hex, hexes, decimal}
-use Rattle.text.specs.TextLaws.{hexes-append, hexes-length, decimal-one, decimal-more}
+use Rattle.text.specs.TextLaws.{hexes-length, decimal-one, decimal-more, decimal-few}
 
 -- ---- one byte
 
@@ -53,33 +53,24 @@ pub record Putting (f : List ℕ → List ℕ) (l : List ℕ) (i : ℕ) (bytes :
   pub front : Put l i (f (take k bytes)) l′ to
 
 module _ (l : List ℕ) (i : ℕ) (bytes : List ℕ) where
-  pub hexing-start : Putting hexes l i bytes 0 i l
-  hexing-start = record { few = omega arith; front = record { bytes = refl; past = omega arith } }
-
-  pub all-start : Putting (λ xs. xs) l i bytes 0 i l
-  all-start = record { few = omega arith; front = record { bytes = refl; past = omega arith } }
+  pub putting-start : (f : List ℕ → List ℕ) → f [] ≡ [] → Putting f l i bytes 0 i l
+  putting-start f e = record { few = omega arith; front = rw e (record { bytes = refl; past = omega arith }) }
 
   module _ (k to : ℕ) (l′ : List ℕ) where
-    next-few : k < length bytes → k + 1 ≤ length bytes
-    next-few h = omega arith
-
     one-more : k < length bytes → take (k + 1) bytes ≡ take k bytes ++ (getD bytes k 0 ∷ [])
     one-more h = let z : k + 1 ≡ suc k = omega arith in ap (λ (n : ℕ). take n bytes) z ∙ take-suc bytes k 0 h
 
-    pub hexing-next : (to′ : ℕ) (l″ : List ℕ) → Putting hexes l i bytes k to l′ → k < length bytes → Put l′ to (hex (getD bytes k 0)) l″ to′
-        → Putting hexes l i bytes (k + 1) to′ l″
-    hexing-next to′ l″ p h q =
+    -- where the text of one byte more is that of the bytes before it and a piece
+    pub putting-next : (f : List ℕ → List ℕ) (piece : ℕ → List ℕ) → ((xs : List ℕ) (x : ℕ) → f (xs ++ (x ∷ [])) ≡ f xs ++ piece x)
+        → (to′ : ℕ) (l″ : List ℕ) → Putting f l i bytes k to l′ → k < length bytes → Put l′ to (piece (getD bytes k 0)) l″ to′
+        → Putting f l i bytes (k + 1) to′ l″
+    putting-next f piece e to′ l″ p h q =
         record {
-          few = next-few h;
+          few = omega arith;
           front =
-              rw (one-more h, hexes-append (take k bytes) (getD bytes k 0 ∷ []))
-              (put-then l i (hexes (take k bytes)) l′ to (hex (getD bytes k 0)) l″ to′ (p .front) q);
+              rw (one-more h, e (take k bytes) (getD bytes k 0))
+              (put-then l i (f (take k bytes)) l′ to (piece (getD bytes k 0)) l″ to′ (p .front) q);
         }
-
-    pub all-next : (to′ : ℕ) (l″ : List ℕ) → Putting (λ xs. xs) l i bytes k to l′ → k < length bytes → Put l′ to (getD bytes k 0 ∷ []) l″ to′
-        → Putting (λ xs. xs) l i bytes (k + 1) to′ l″
-    all-next to′ l″ p h q =
-        record { few = next-few h; front = rw (one-more h) (put-then l i (take k bytes) l′ to (getD bytes k 0 ∷ []) l″ to′ (p .front) q) }
 
     pub hexing-place : Putting hexes l i bytes k to l′ → to ≡ i + 3 * k
     hexing-place p =
@@ -95,6 +86,18 @@ module _ (l : List ℕ) (i : ℕ) (bytes : List ℕ) where
     putting-done f p h = rw (take-all k bytes h) at (p .front)
 
 -- ---- decimal numbers
+
+-- a space and a byte in decimal
+module _ (l : List ℕ) (i : ℕ) (l₁ : List ℕ) (i₁ n : ℕ) (p : Put l i (0x20 ∷ []) l₁ i₁) (h : n < 256) where
+  pub number-fits : i₁ + length (decimal n) ≤ i + 5
+  number-fits = let a = p .past in let d = decimal-few n (omega arith) in omega arith
+
+  module _ (l₂ : List ℕ) (i₂ : ℕ) (q : Put l₁ i₁ (decimal n) l₂ i₂) where
+    pub put-number : Put l i (0x20 ∷ decimal n) l₂ i₂
+    put-number = put-then l i (0x20 ∷ []) l₁ i₁ (decimal n) l₂ i₂ p q
+
+    pub number-place : i₂ ≤ i + 5
+    number-place = let a = number-fits in let b = q .past in omega arith
 
 module _ (n : ℕ) where
   pub one-digit : n < 10 → length (decimal n) ≡ 1

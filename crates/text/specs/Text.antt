@@ -1,4 +1,4 @@
--- The text of a listing (the paragraph on the printing program).
+-- The text of a listing (the paragraph on the printing program, and "Tries left, shown to the candidate").
 use Prim.Native.Nat.{ℕ, zero, suc, _+_, _/_, _%_}
 use mathlib.Core.Bool.{cond}
 use mathlib.Core.List.{List, [], _∷_, _++_}
@@ -24,6 +24,11 @@ digits (suc k) n = cond (ltb n 10) ((0x30 + n) ∷ []) (digits k (n / 10) ++ ((0
 unfoldable pub decimal : ℕ → List ℕ
 decimal n = digits (suc n) n
 
+-- every number so, each behind a space
+abbrev pub decimals : List ℕ → List ℕ
+decimals [] = []
+decimals (n ∷ ns) = (0x20 ∷ decimal n) ++ decimals ns
+
 -- the line of a record: its number, its kind and its response
 abbrev pub line : ℕ → ℕ → List ℕ → List ℕ
 line number kind response = decimal number ++ (hexes (kind ∷ response) ++ (0x0A ∷ []))
@@ -32,6 +37,10 @@ line number kind response = decimal number ++ (hexes (kind ∷ response) ++ (0x0
 abbrev pub lines : ℕ → List Entry → List ℕ
 lines k [] = []
 lines k (e ∷ es) = line k (e .kind) (e .response) ++ lines (suc k) es
+
+-- "tries" and the tries left
+abbrev pub triesLine : List ℕ → List ℕ
+triesLine ns = (0x74 ∷ 0x72 ∷ 0x69 ∷ 0x65 ∷ 0x73 ∷ []) ++ (decimals ns ++ (0x0A ∷ []))
 
 -- "fuses" and F
 abbrev pub fusesLine : ℕ → List ℕ

@@ -1,14 +1,15 @@
 -- Laws of the text: decimal numbers by their last digit, and how long lines are.
 use Prim.Native.Nat.{ℕ, zero, suc, _+_, _*_, _/_, _%_, _^_, _≤_, _<_}
 use mathlib.Core.Bool.{Bool, true, false, cond}
-use mathlib.Core.List.{List, [], _∷_, _++_}
-use mathlib.Core.Path.{_≡_, refl, ap}
+use mathlib.Core.List.{List, [], _∷_, _++_, append-assoc, append-nil}
+use mathlib.Core.Path.{_≡_, refl, sym, ap, _∙_}
 use native.Mathlib.Omega.{arith}
 use native.Mathlib.Nat.{pow-suc}
 use borrow.Author.Tests.{ltb-false, lt-ltb, le-ltb}
 use lib.Dec.{ltb}
 use lib.ListN.{length, length-append}
-use Rattle.text.specs.Text.{hex, hexes, digits, decimal, line}
+use Rattle.text.specs.Text.{hex, hexes, digits, decimal, decimals, line}
+use Rattle.model.specs.Lists.{tab}
 
 -- as many digits as are enough give the same
 digits-enough : (j k n : ℕ) → n < j → n < k → digits j n ≡ digits k n
@@ -65,3 +66,18 @@ line-length number kind response h =
 pub hexes-append : (xs ys : List ℕ) → hexes (xs ++ ys) ≡ hexes xs ++ hexes ys
 hexes-append [] ys = refl
 hexes-append (x ∷ xs) ys = ap (λ (t : List ℕ). hex x ++ t) (hexes-append xs ys)
+
+pub decimals-last : (xs : List ℕ) (x : ℕ) → decimals (xs ++ (x ∷ [])) ≡ decimals xs ++ (0x20 ∷ decimal x)
+decimals-last [] x = append-nil (0x20 ∷ decimal x)
+decimals-last (y ∷ xs) x =
+    ap (λ (t : List ℕ). (0x20 ∷ decimal y) ++ t) (decimals-last xs x) ∙ sym (append-assoc (0x20 ∷ decimal y) (decimals xs) (0x20 ∷ decimal x))
+
+-- numbers of one digit each
+pub decimals-tab : (f : ℕ → ℕ) → ((k : ℕ) → f k < 10) → (n : ℕ) → length (decimals (tab f n)) ≡ 2 * n
+unfolding tab
+decimals-tab f h zero = refl
+decimals-tab f h (suc n) =
+    let i = decimals-tab f h n in
+    let a = ap length (decimals-last (tab f n) (f n)) ∙ length-append (decimals (tab f n)) (0x20 ∷ decimal (f n)) in
+    let d = ap length (decimal-one (f n) (h n)) in
+    omega arith

@@ -78,3 +78,19 @@ pub fn put_decimal(text: &mut [u8], at: usize, number: usize) -> usize
     let last = put_decimal(text, at, number / 10);
     put(text, last, 48 + (number % 10) as u8)
 }
+
+// helper: every byte of a slice as a number, each behind a space.
+pub fn put_decimals(text: &mut [u8], at: usize, numbers: &[u8]) -> usize
+    requires { ⌜ at + 5 * length (now numbers) < 2 ^ 64 ⌝ }
+    ensures { λ r. ⌜ Put (now (text .entry)) at (model.decimals (now (numbers .entry))) (now (text .exit)) r ⌝ }
+{
+    let mut to = at;
+    let mut i = 0;
+    while i < numbers.len() {
+        let number = numbers[i] as usize;
+        let digits = put(text, to, 32);
+        to = put_decimal(text, digits, number);
+        i += 1;
+    }
+    to
+}

@@ -62,10 +62,10 @@ fn agree(
     panic!("{report}");
 }
 
-/// Fails if a refused call has changed lent bytes or tells of a length.
+/// Fails if a refused call has changed lent bytes or tells more than its number.
 fn untouched(result: u64, before: &[&[u8]], after: &mut [&mut Lent]) {
     if result & 0xFF != 0 {
-        assert_eq!(result >> 8, 0, "a refusal has length 0");
+        assert_eq!(result >> 8, 0, "a refusal has its number alone");
         for (before, after) in before.iter().zip(after) {
             assert!(*before == after.bytes(), "a refusal changes nothing");
         }

@@ -52,14 +52,16 @@ same-length-3 c = search needs
 
 returns-2 : tie.Need-returns-2
 returns-2 c =
-    let start = c .before .before .before .before .before .before .before .before .before .before .before .before .before .before .before .before .before in
-    let admit = c .before .before .before .before .before .before .before .before .before .before .before .before .admit in
-    let kind = c .before .before .before .before .before .before .before .before .before .before .kind in
-    let head-of = c .before .before .before .before .before .before .before .before .head-of in
-    let answer-length = c .before .before .before .before .before .before .before .answer-length in
-    let carry-out = c .before .before .before .before .carry-out in
+    let start =
+    c .before .before .before .before .before .before .before .before .before .before .before .before
+    .before .before .before .before .before .before in
+    let admit = c .before .before .before .before .before .before .before .before .before .before .before .before .before .admit in
+    let kind = c .before .before .before .before .before .before .before .before .before .before .before .kind in
+    let head-of = c .before .before .before .before .before .before .before .before .before .head-of in
+    let answer-length = c .before .before .before .before .before .before .before .before .answer-length in
+    let carry-out = c .before .before .before .before .before .carry-out in
     call-carried _ _ _ _ _ _ (sym (ap (decodedOf (start .args .«record» .now)) (kind .given .1)) ∙ admit .ensures) _ (head-of .ensures)
-    _ _ _ _ (answer-length .ensures) (carry-out .ensures)
+    _ _ _ _ _ (answer-length .ensures) (carry-out .ensures)
 
 pub command-spec : {M : Type 1} → statement M
 command-spec =

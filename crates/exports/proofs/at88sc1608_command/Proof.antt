@@ -17,8 +17,8 @@ write-state-requires c κs =
     let command = c .before .before .before .before .before .before .command in
     accepted-long _ _ _ _ _ (read-state .ensures) _ (command .ensures)
 
-result-number-requires : tie.Need-result-number-requires
-result-number-requires c κs =
+command-number-requires : tie.Need-command-number-requires
+command-number-requires c κs =
     let shared-slice-known =
     c .before .before .before .before .before .before .before .before .before .before .before .before
     .before .before .before .shared-slice-known in
@@ -40,7 +40,7 @@ returns c =
     let read-state = c .before .before .before .before .before .before .before .before .before .before .before .before .before .read-state in
     let command = c .before .before .before .before .before .before .before .before .before .before .command in
     let write-state = c .before .before .before .write-state in
-    command-told _ _ _ _ _ (read-state .ensures) _ (command .ensures) _ _ (c .result-number .ensures) (write-state .ensures)
+    command-told _ _ _ _ _ (read-state .ensures) _ (command .ensures) _ _ (c .command-number .ensures) (write-state .ensures)
 
 pub at88sc1608-command-spec : {M : Type 1} → statement M
 at88sc1608-command-spec =
@@ -49,7 +49,7 @@ at88sc1608-command-spec =
     read-state-requires
     command-requires
     write-state-requires
-    result-number-requires
+    command-number-requires
     same-length
     same-length-2
     same-length-3

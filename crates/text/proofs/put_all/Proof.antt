@@ -1,9 +1,11 @@
 -- The front of the bytes is put.
 use Prim.Native.Nat.{_-_}
+use mathlib.Core.List.{[], _∷_}
+use mathlib.Core.Path.{refl}
 use borrow.Author.Needs.{needs}
 use lib.ListN.{length}
 use native.Mathlib.Omega.{arith}
-use Rattle.text.proofs.PutLaws.{Putting, all-start, all-next, all-place, putting-done, put-length}
+use Rattle.text.proofs.PutLaws.{Putting, putting-start, putting-next, all-place, putting-done, put-length}
 use Rattle.text.proofs.put_all.Statement.{statement}
 use Rattle.text.proofs.put_all.Tie as tie
 
@@ -14,7 +16,7 @@ abbrev μ-loop : tie.MeasureT-loop
 μ-loop text₀ at bytes to₀ i₀ text to i = length bytes - i
 
 loop-holds : tie.Need-loop-holds Inv-loop μ-loop
-loop-holds c = all-start _ _ _
+loop-holds c = putting-start _ _ _ (λ xs. xs) refl
 
 shared-slice-read-put : tie.Need-shared-slice-read-put Inv-loop μ-loop
 shared-slice-read-put c = search needs
@@ -38,7 +40,7 @@ loop-again : tie.Need-loop-again Inv-loop μ-loop
 loop-again c =
     let the-loop = c .before .before .before .before .before .before .loop in
     let loop-test = c .before .before .before .before .before .loop-test in
-    all-next _ _ _ _ _ _ _ _ (the-loop .inv) (loop-test .taken) (c .before .before .put .ensures)
+    putting-next _ _ _ _ _ _ (λ xs. xs) (λ x. x ∷ []) (λ xs x. refl) _ _ (the-loop .inv) (loop-test .taken) (c .before .before .put .ensures)
 
 same-length : tie.Need-same-length Inv-loop μ-loop
 same-length c = put-length _ _ _ _ _ (c .before .loop .inv .front)

@@ -3,8 +3,11 @@ use Prim.Native.Nat.{_-_}
 use borrow.Author.Needs.{needs}
 use lib.ListN.{length}
 use native.Mathlib.Omega.{arith}
-use Rattle.text.specs.Text.{hexes}
-use Rattle.text.proofs.PutLaws.{Putting, hexing-start, hexing-next, hexing-place, putting-done, put-length}
+use mathlib.Core.List.{[], _∷_}
+use mathlib.Core.Path.{refl}
+use Rattle.text.specs.Text.{hex, hexes}
+use Rattle.text.specs.TextLaws.{hexes-append}
+use Rattle.text.proofs.PutLaws.{Putting, putting-start, putting-next, hexing-place, putting-done, put-length}
 use Rattle.text.proofs.put_hexes.Statement.{statement}
 use Rattle.text.proofs.put_hexes.Tie as tie
 
@@ -15,7 +18,7 @@ abbrev μ-loop : tie.MeasureT-loop
 μ-loop text₀ at bytes to₀ i₀ text to i = length bytes - i
 
 loop-holds : tie.Need-loop-holds Inv-loop μ-loop
-loop-holds c = hexing-start _ _ _
+loop-holds c = putting-start _ _ _ hexes refl
 
 shared-slice-read-put-hex : tie.Need-shared-slice-read-put-hex Inv-loop μ-loop
 shared-slice-read-put-hex c = search needs
@@ -39,7 +42,7 @@ loop-again : tie.Need-loop-again Inv-loop μ-loop
 loop-again c =
     let the-loop = c .before .before .before .before .before .before .loop in
     let loop-test = c .before .before .before .before .before .loop-test in
-    hexing-next _ _ _ _ _ _ _ _ (the-loop .inv) (loop-test .taken) (c .before .before .put-hex .ensures)
+    putting-next _ _ _ _ _ _ hexes hex (λ xs x. hexes-append xs (x ∷ [])) _ _ (the-loop .inv) (loop-test .taken) (c .before .before .put-hex .ensures)
 
 same-length : tie.Need-same-length Inv-loop μ-loop
 same-length c = put-length _ _ _ _ _ (c .before .loop .inv .front)

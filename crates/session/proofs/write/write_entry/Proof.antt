@@ -53,14 +53,16 @@ same-length-2 c = search needs
 
 returns : tie.Need-returns
 returns c =
-    let start = c .before .before .before .before .before .before .before .before .before .before .before .before .before .before .before .before .before in
-    let answer-length = c .before .before .before .before .before .before .before .before .before .before .before .before .before .answer-length in
-    let put-header = c .before .before .before .before .before .before .before .before .before .before .before .put-header in
-    let made = c .before .before .before .before .before .before .before .before .made in
-    let record-length = c .before .before .before .before .before .before .before .record-length in
-    let carry-out = c .before .before .before .before .carry-out in
+    let start =
+    c .before .before .before .before .before .before .before .before .before .before .before .before
+    .before .before .before .before .before .before in
+    let answer-length = c .before .before .before .before .before .before .before .before .before .before .before .before .before .before .answer-length in
+    let put-header = c .before .before .before .before .before .before .before .before .before .before .before .before .put-header in
+    let made = c .before .before .before .before .before .before .before .before .before .made in
+    let record-length = c .before .before .before .before .before .before .before .before .record-length in
+    let carry-out = c .before .before .before .before .before .carry-out in
     entry-written _ _ _ _ (start .pre .1) _ (start .pre .0)
-    _ _ _ _ (answer-length .ensures) (put-header .ensures) (made .ensures) (record-length .ensures) _ _ refl refl _ _ _ (carry-out .ensures)
+    _ _ _ _ (answer-length .ensures) (put-header .ensures) (made .ensures) (record-length .ensures) _ _ refl refl _ _ _ _ (carry-out .ensures)
 
 pub write-entry-spec : {M : Type 1} → statement M
 write-entry-spec =

@@ -1,0 +1,29 @@
+-- The sum as it stands.
+use native.Mathlib.Omega.{arith}
+use borrow.Author.Needs.{needs}
+use Rattle.exports.proofs.result.command_number.Statement.{statement}
+use Rattle.exports.proofs.result.command_number.Tie as tie
+
+outcome-number-requires : tie.Need-outcome-number-requires
+outcome-number-requires c κs = search needs
+
+cast-refusal : tie.Need-cast-refusal
+cast-refusal c = search needs
+
+mul-result : tie.Need-mul-result
+mul-result c = search needs
+
+add-result : tie.Need-add-result
+add-result c = search needs
+
+mul-result-2 : tie.Need-mul-result-2
+mul-result-2 c = search needs
+
+add-result-2 : tie.Need-add-result-2
+add-result-2 c = search needs
+
+returns : tie.Need-returns
+returns c = let e = c .outcome-number .ensures in omega arith
+
+pub command-number-spec : {M : Type 1} → statement M
+command-number-spec = tie.close (tie.spec outcome-number-requires cast-refusal mul-result add-result mul-result-2 add-result-2 returns)

@@ -1,0 +1,47 @@
+-- Of the tries left: the 1 bits of a byte; and what an accepted call hands out is what its counter leaves on the card.
+use Prim.Native.Nat.{ℕ, suc, _≤_, _<_}
+use mathlib.Core.List.{List}
+use mathlib.Core.Logic.{_↔_}
+use mathlib.Core.Path.{_≡_, refl, ap, _∙_}
+use native.Mathlib.Omega.{arith}
+use lib.ListN.{length}
+use Rattle.model.specs.Sizes.{cardSize}
+use Rattle.model.specs.Bits.{spentCounter, triesLeft}
+use Rattle.model.specs.Volatile.{Volatile}
+use Rattle.model.specs.Command.{Command}
+use Rattle.model.specs.Device.{Counter, ofPassword, ofAuthentication, counterPlace, spent}
+use Rattle.model.specs.At88sc1608.{at88sc1608}
+use Rattle.model.specs.Call.{powered, Report, replying}
+use Rattle.model.specs.Session.{logged, after}
+use Rattle.model.specs.Single.{apply}
+use Rattle.laws.specs.BitLaws.{bits-most, bits-none, none-zero, cleared-fewer}
+use Rattle.laws.specs.Effects.{triesAfter, hands-out}
+use Rattle.properties.specs.AcceptedSession.{leaving}
+
+pub most : (x : ℕ) → triesLeft x ≤ 8
+unfolding triesLeft
+most = bits-most 8
+
+pub none : (x : ℕ) → x < 256 → (triesLeft x ≡ 0) ↔ (x ≡ 0)
+unfolding triesLeft
+none x h = (none-zero 8 x h, λ e. ap triesLeft e ∙ bits-none 8)
+
+pub fewer : (x : ℕ) → x < 256 → (x ≡ 0 → ⊥) → suc (spent at88sc1608 x .tries) ≡ triesLeft x
+unfolding triesLeft spentCounter
+fewer = cleared-fewer 8
+
+-- a card has its counters
+counters-in : (c : List ℕ) → length c ≡ cardSize → (n : Counter) → counterPlace at88sc1608 n < length c
+counters-in c l (ofPassword k) = omega arith
+counters-in c l ofAuthentication = omega arith
+
+pub handed : (c : List ℕ) (s : Volatile) (k : Command) → length c ≡ cardSize → apply c s k .report .tries ≡ triesAfter at88sc1608 k (apply c s k .card)
+unfolding triesLeft
+handed c s k l = hands-out at88sc1608 refl c s k (counters-in c l)
+
+pub handing : (c : List ℕ) (s : Volatile) (k : Command) → length c ≡ cardSize → (space : List ℕ)
+    → record { card = apply c s k .card; reply = replying space (apply c s k .report) }
+    ≡ leaving k (after (powered c s) k) (logged (powered c s) k .response) space
+handing c s k l space =
+    let r : Report Volatile = apply c s k .report in
+    ap (λ (n : ℕ). record { card = apply c s k .card; reply = replying space (record { state = r .state; answer = r .answer; tries = n }) }) (handed c s k l)
