@@ -68,8 +68,8 @@ module _ (c ns : List ℕ) (counted : ns ≡ triesOf at88sc1608 c) (l : List ℕ
 -- ---- the lines of a card
 
 module _ (c l : List ℕ) (i : ℕ) (l₁ : List ℕ) (i₁ : ℕ) (p : Put l i (triesLine (triesOf at88sc1608 c)) l₁ i₁) where
-  pub fuses-place : i₁ ≡ i + 40
-  fuses-place = let a = p .past in let b = tries-line c in omega arith
+  pub fuses-room : i + 100 < 2 ^ 64 → i₁ + 9 < 2 ^ 64
+  fuses-room h = let a = p .past in let b = tries-line c in omega arith
 
   pub card-put : (l₂ : List ℕ) (i₂ : ℕ) → Put l₁ i₁ (fusesLine (at c fuseAt)) l₂ i₂ → Put l i (cardLines c) l₂ i₂
   unfolding cardLines

@@ -13,7 +13,7 @@ pub record EntriesReady (l : List ℕ) (count end : ℕ) : Type 0 where
   pub within : end ≤ length l
   pub small : length (linesAt count 0 l 0) < 2 ^ 64
 
--- a log, with room in any space's numbers behind its lines
+-- a log whose listing stays below the greatest place, with some to spare
 pub record LogReady (l : List ℕ) : Type 0 where
   pub well : valid l ≡ true
   pub small : length (logLines l) + 100 < 2 ^ 64

@@ -1,14 +1,18 @@
 -- Rules over bytes: the lowest 1 bit cleared, by one computed test; the 1 bits as the program counts them.
 use Prim.Native.Nat.{ℕ, zero, suc, _+_, _-_, _/_, _%_, _^_, _<_}
+use mathlib.Core.List.{List, [], _∷_, _++_}
 use mathlib.Core.Path.{_≡_, refl, ap, _∙_}
 use native.Mathlib.Nat.{pow-suc}
 use native.Mathlib.Omega.{arith}
 use lib.Bits.{bitAnd}
 use lib.Count.{ones, ones-step}
+use lib.ListN.{length, drop, set}
+use Rattle.model.specs.Lists.{at, tab}
 use Rattle.model.specs.Bits.{bitCount, spentCounter, triesLeft}
-use Rattle.model.specs.At88sc1608.{at88sc1608}
+use Rattle.model.specs.At88sc1608.{at88sc1608, counterAt, attemptsAt}
 use Rattle.model.specs.Device as model
 use Rattle.laws.specs.BitLaws.{bits-most}
+use Rattle.laws.specs.Loops.{tab-last}
 use Rattle.laws.specs.Tables.{agree-at}
 
 pub cleared : (x : ℕ) → x < 256 → bitAnd x (x - 1) ≡ spentCounter x
@@ -35,3 +39,10 @@ spent-zero x e = rw e
 
 pub spent-one : (x v t : ℕ) → x < 256 → v ≡ bitAnd x (x - 1) → t ≡ triesLeft v → record { value = v; tries = t } ≡ model.spent at88sc1608 x
 spent-one x v t h e q = let w = e ∙ cleared x h in λ i. record { value = w i; tries = (q ∙ ap triesLeft w) i }
+
+-- the tries left of all counters, from those of the passwords and that of authentication
+pub all-tries : (c d l : List ℕ) (v : ℕ) → l ≡ tab (λ k. triesLeft (at c (counterAt k))) 16 ++ drop 16 d → length d ≡ 17 → v ≡ triesLeft (at c attemptsAt)
+    → set l 16 v ≡ model.triesOf at88sc1608 c
+unfolding model.triesOf
+all-tries c d l v e h q =
+    tab-last (λ k. triesLeft (at c (counterAt k))) 16 v d l e h ∙ ap (λ (n : ℕ). tab (λ k. triesLeft (at c (counterAt k))) 16 ++ (n ∷ [])) q

@@ -7,9 +7,9 @@ use borrow.Author.Needs.{needs}
 use lib.ListN.{drop, replicate}
 use Rattle.model.specs.Lists.{at, tab}
 use Rattle.model.specs.Bits.{triesLeft}
-use Rattle.model.specs.Device.{triesOf}
 use Rattle.model.specs.At88sc1608.{counterAt}
-use Rattle.laws.specs.Loops.{tab-start, tab-next, tab-done, tab-last}
+use Rattle.laws.specs.Loops.{tab-start, tab-next, tab-done}
+use Rattle.security.proofs.CounterLaws.{all-tries}
 use Rattle.security.proofs.counter.tries_of.Statement.{statement}
 use Rattle.security.proofs.counter.tries_of.Tie as tie
 
@@ -62,11 +62,10 @@ array-write-tries-2 : tie.Need-array-write-tries-2 Inv-loop μ-loop
 array-write-tries-2 c = search needs
 
 returns : tie.Need-returns Inv-loop μ-loop
-unfolding triesOf
 returns c =
     let the-loop = c .before .before .before .loop in
-    rw (← (c .tries-left2 .ensures))
-    (tab-last _ 16 _ (replicate 17 0) _ (tab-done _ _ 16 (replicate 17 0) _ (the-loop .inv .1) (the-loop .inv .0) (search needs)) refl)
+    all-tries _ (replicate 17 0) _ _ (tab-done _ _ 16 (replicate 17 0) _ (the-loop .inv .1) (the-loop .inv .0) (search needs)) refl
+    (c .tries-left2 .ensures)
 
 pub tries-of-spec : {M : Type 1} → statement M
 tries-of-spec =
