@@ -28,7 +28,9 @@ try() { # EDIT
         cp -R "$top/crates/$crate" "$room/crates/"
         grep "^$crate:" "$top/crates.txt" >>"$room/crates.txt"
     done
-    for table in Cases Mistakes Attempts; do
+    # the tables cite `Computed`
+    for table in $(cd "$room/crates/model/specs" && grep -l 'specs\.Computed\.{computed}' -- *.antt); do
+        table=${table%.antt}
         rm "$room/crates/model/specs/$table.antt"
         replace "$room/crates/model/specs/Lib.antt" "pub mod $table"$'\n' ''
     done

@@ -1,5 +1,5 @@
--- What a command can do, for any device, told once over all twelve kinds: which bytes of the card it may change and why, and
--- how the volatile state may move.
+-- What a command can do, for any device, told once over all twelve kinds: which bytes of the card it may change and why, how the
+-- volatile state may move, how long the answer is, and what it hands out of a counter.
 use Prim.Native.Nat.{ℕ, suc, _<_}
 use mathlib.Core.Bool.{Bool, true, false, cond}
 use mathlib.Core.List.{List, [], _∷_}
@@ -108,6 +108,13 @@ module _ (D : Device) where
   answer-length c s beginAuthentication = refl
   answer-length c s (verifyAuthentication v xs) = refl
 
+  -- what a counter that is used up leaves, and one that was set
+  used-left : (c : List ℕ) (i : ℕ) → D .tries 0 ≡ 0 → eqb (at c i) 0 ≡ true → 0 ≡ D .tries (at c i)
+  used-left c i z e = sym (ap (D .tries) (eqb-true _ _ e) ∙ z)
+
+  set-left : (c : List ℕ) (i v : ℕ) → i < length c → D .tries v ≡ D .tries (at (set c i v) i)
+  set-left c i v h = ap (D .tries) (sym (getD-set-same c i v 0 h))
+
   -- where a counter of 0 leaves none and the card has its counters, they are those of the card that the command leaves
   pub hands-out : D .tries 0 ≡ 0 → (c : List ℕ) (s : Volatile) (k : Command) → ((n : Counter) → counterPlace D n < length c)
       → apply D c s k .report .tries ≡ triesAfter D k (apply D c s k .card)
@@ -123,21 +130,16 @@ module _ (D : Device) where
   hands-out z c s writeFuses h = refl
   hands-out z c s (verifyPassword k xs) h = go (eqb (at c (D .counterAt k)) 0) (sameList xs (password D c k)) refl
     where
-      i : ℕ
-      i = D .counterAt k
-
-      go : (l r : Bool) → eqb (at c i) 0 ≡ l → presented D (attemptOf l r) c s k .tries ≡ D .tries (at (presented D (attemptOf l r) c s k .card) i)
-      go true r e = sym (ap (D .tries) (eqb-true _ _ e) ∙ z)
-      go false true e = ap (D .tries) (sym (getD-set-same c i fullCounter 0 (h (ofPassword k))))
-      go false false e = ap (D .tries) (sym (getD-set-same c i (D .spend (at c i)) 0 (h (ofPassword k))))
+      go : (l r : Bool) → eqb (at c (D .counterAt k)) 0 ≡ l
+          → presented D (attemptOf l r) c s k .tries ≡ D .tries (at (presented D (attemptOf l r) c s k .card) (D .counterAt k))
+      go true r e = used-left c (D .counterAt k) z e
+      go false true e = set-left c (D .counterAt k) fullCounter (h (ofPassword k))
+      go false false e = set-left c (D .counterAt k) _ (h (ofPassword k))
   hands-out z c s beginAuthentication h = go (eqb (at c (D .attemptsAt)) 0) refl
     where
-      i : ℕ
-      i = D .attemptsAt
-
-      go : (l : Bool) → eqb (at c i) 0 ≡ l → started D l c s .tries ≡ D .tries (at (started D l c s .card) i)
-      go true e = sym (ap (D .tries) (eqb-true _ _ e) ∙ z)
-      go false e = ap (D .tries) (sym (getD-set-same c i (D .spend (at c i)) 0 (h ofAuthentication)))
+      go : (l : Bool) → eqb (at c (D .attemptsAt)) 0 ≡ l → started D l c s .tries ≡ D .tries (at (started D l c s .card) (D .attemptsAt))
+      go true e = used-left c (D .attemptsAt) z e
+      go false e = set-left c (D .attemptsAt) _ (h ofAuthentication)
   hands-out z c s (verifyAuthentication v xs) h = refl
 
   -- a command changes a card by such changes alone: what each of them keeps, the command keeps

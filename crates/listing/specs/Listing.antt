@@ -10,15 +10,11 @@ use Rattle.model.specs.Command.{Command}
 use Rattle.model.specs.Device.{triesOf}
 use Rattle.model.specs.At88sc1608.{at88sc1608}
 use Rattle.model.specs.Log.{countOf, offsetOf, lengthAt, nextEntry}
-use Rattle.model.specs.Session.{Read, stopped, all, readFrom, entriesOf, endOf, initial, run}
+use Rattle.model.specs.Session.{commandsIn, readFrom, entriesOf, endOf, initial, run}
 use Rattle.model.specs.Session as session
 use Rattle.text.specs.Text.{line, lines, triesLine, fusesLine, refusedLine}
 
 -- the commands of a session
-abbrev pub commandsIn : Read → List Command
-commandsIn (stopped n) = []
-commandsIn (all ks i) = ks
-
 abbrev pub commandsOf : List ℕ → List Command
 commandsOf s = commandsIn (readFrom (session.countOf s) s (session.startOf s))
 

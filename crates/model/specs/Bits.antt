@@ -26,6 +26,6 @@ abbrev pub bitCount : ℕ → ℕ → ℕ
 bitCount zero x = 0
 bitCount (suc n) x = x % 2 + bitCount n (x / 2)
 
--- the tries that an attempts counter leaves: its 1 bits
+-- the tries that an attempts counter leaves, 0 to 8: its 1 bits ("Tries left, shown to the candidate")
 unfoldable pub triesLeft : ℕ → ℕ
 triesLeft x = bitCount 8 x

@@ -55,7 +55,7 @@ abbrev pub counterPlace : Device → Counter → ℕ
 counterPlace D (ofPassword k) = D .counterAt k
 counterPlace D ofAuthentication = D .attemptsAt
 
--- the rule for a failed attempt: the counter's new value, and the tries that are then left
+-- the rule for a failed attempt: the counter's new value, and the tries that are then left ("Tries left, shown to the candidate")
 pub record Spent : Type 0 where
   pub value : ℕ
   pub tries : ℕ

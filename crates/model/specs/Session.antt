@@ -62,6 +62,10 @@ abbrev pub onDecoded : {A : Type 0} → Decoded Command → (ℕ → A) → (Com
 onDecoded (refused n) f g = f n
 onDecoded (whole k n) f g = g k n
 
+abbrev pub commandsIn : Read → List Command
+commandsIn (stopped n) = []
+commandsIn (all ks i) = ks
+
 abbrev pub more : Command → Read → Read
 more k (stopped n) = stopped n
 more k (all ks i) = all (k ∷ ks) i

@@ -1,7 +1,7 @@
 -- Of two sessions that agree outside secret places of their cards: from demand 3 of lists of calls, their runs are alike.
 use Prim.Native.Nat.{ℕ, zero, suc, _+_, _-_, _≤_, _<_, min}
 use mathlib.Core.Bool.{Bool, true, false, cond, not, _&&_}
-use mathlib.Core.List.{List, [], _++_, append-assoc}
+use mathlib.Core.List.{List, _++_, append-assoc}
 use mathlib.Core.Path.{_≡_, refl, sym, ap, subst, _∙_}
 use native.Mathlib.Omega.{arith}
 use borrow.Author.Tests.{ltb-true, ltb-false, leb-true, leb-false, le-leb, eqb-true}
@@ -18,7 +18,7 @@ use Rattle.model.specs.Call.{Call}
 use Rattle.model.specs.Log.{Entry, entriesBytes, logTrailer, logBytes}
 use Rattle.model.specs.Reader.{recordsEnd}
 use Rattle.model.specs.Refusal.{bytesLeft, noSpace}
-use Rattle.model.specs.Session.{cardOf, startOf, countOf, frame, Read, stopped, all, readFrom, entriesOf, endOf, logOf, initial}
+use Rattle.model.specs.Session.{cardOf, startOf, countOf, frame, Read, stopped, all, commandsIn, readFrom, entriesOf, endOf, logOf, initial}
 use Rattle.model.specs.Session.{rejected, written, ended, framed, run}
 use Rattle.model.specs.Single.{replies, final}
 use Rattle.secrecy.specs.Secret.{Sealed, register, inZone, inZoneOrPasswords, AgreeOutside}
@@ -71,10 +71,6 @@ module _ (hidden : ℕ → Bool) where
           List·getD-append e (c₁ ++ x) 0 i l ∙ sym (List·getD-append e (c₂ ++ x) 0 i l)
 
 -- ---- from lists of calls to sessions
-
-abbrev commands : Read → List Command
-commands (stopped n) = []
-commands (all ks i) = ks
 
 agree-self : (hidden : ℕ → Bool) (l : List ℕ) → AgreeOutside hidden l l
 agree-self hidden l = record { long = refl; same = λ i h. refl }
@@ -259,7 +255,7 @@ module _ (hidden : ℕ → Bool) (in-card : (i : ℕ) → fuseAt ≤ i → hidde
       same-records : (ks₁ ks₂ : List Command) → Accepts s₁ space ks₁ → Accepts s₂ space ks₂ → RecordsAlike hidden ks₁ ks₂ (initial s₁) (initial s₂)
       same-records ks₁ ks₂ a₁ a₂ =
           let q = sym (reads-same (a₁ .frames)) ∙ a₁ .reads in
-          subst (λ (ks : List Command). RecordsAlike hidden ks₁ ks (initial s₁) (initial s₂)) (ap commands (sym q ∙ a₂ .reads)) (records-alike ks₁ a₁ q)
+          subst (λ (ks : List Command). RecordsAlike hidden ks₁ ks (initial s₁) (initial s₂)) (ap commandsIn (sym q ∙ a₂ .reads)) (records-alike ks₁ a₁ q)
 
 -- ---- the AT88SC1608
 
