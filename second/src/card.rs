@@ -102,7 +102,8 @@ pub fn execute(card: &mut Card, state: &mut Volatile, record: &Record, response:
 
 fn read_zone(card: &Card, state: &Volatile, address: u8, response: &mut [u8]) {
     if !register(card, state.zone).may_read(stage(card), state) {
-        response.fill(0);
+        // A forbidden byte of a zone answers F; one of the configuration answers 0.
+        response.fill(card[FUSES]);
         return;
     }
     let base = ZONE * state.zone.number();

@@ -76,6 +76,20 @@ fn authentication() -> Author {
         .read(0, 7)
 }
 
+fn closed() -> Author {
+    let reads =
+        |a: Author| a.power().read(0, 4).select(1).read(0xFE, 4).read_configuration(0x58, 8);
+    let blown = |a: Author| a.right(7).write_fuses();
+    let author = Author::new(6)
+        .text(b"Closed zones show F: 06, then 04, then 00. Closed configuration bytes show 00.\n")
+        .put_register(0, 0b1010_1111)
+        .put_zone(0, 0, b"read")
+        .put_register(1, 0b1101_1111)
+        .put_zone(1, 0, b"auth");
+    let sealed = reads(blown(reads(blown(reads(author)))));
+    sealed.right(11).read(0, 4).select(0).read(0, 4)
+}
+
 fn tries() -> Author {
     Author::new(0)
         .text(b"Tries left: 7 for write password 1, 8 for 2, 0 for read password 5, 6 for AAC.\n")
@@ -122,6 +136,7 @@ pub fn all() -> Vec<(&'static str, Vec<u8>)> {
         ("personalised", personalised()),
         ("locked", locked()),
         ("authentication", authentication()),
+        ("closed", closed()),
         ("tries", tries()),
         ("refused", refused()),
         ("wrap", wrap()),

@@ -50,6 +50,27 @@ fn registers(fuses: u8) -> Author {
     author
 }
 
+/// Zones closed for want of a password, of authentication or of both, read past $FF and whole, and
+/// configuration bytes, closed ones among them; the same again with one fuse more blown.
+fn closed(fuses: u8) -> Author {
+    let wants = [RPE, ATE, RPE | ATE, WPE | RPE, WPE | ATE, RPE | MDF, ATE | PGO, 0];
+    let author = wants.into_iter().enumerate().fold(Author::new(fuses), |author, (zone, on)| {
+        let set = 7 - zone as u8;
+        author.put_zone(zone, 0, &[0x33; ZONE]).put_register(zone, register(on, set))
+    });
+    let reads = |author: Author| {
+        author
+            .each_zone(|a, zone| a.select(zone).read(0xFE, 4).read(0x10 + zone, 1))
+            .select(2)
+            .read(0x80, 0)
+            .read_configuration(0x2E, 20)
+            .read_configuration(0x7D, 3)
+    };
+    // Zone 0 opens to write password 7, and zone 7 to all.
+    let blown = reads(author).right(7).write_fuses();
+    reads(reads(blown).reset())
+}
+
 /// Every configuration area read and written, under no password and under several.
 fn areas(fuses: u8) -> Author {
     let mut author = Author::new(fuses).read_configuration(0, 128);
@@ -261,6 +282,7 @@ fn accepted() -> Vec<Author> {
     let mut all: Vec<Author> = vec![Author::new(7), examples::printed()];
     all.extend(STAGES.map(registers));
     all.extend(STAGES.map(areas));
+    all.extend([6, 4].map(closed));
     all.extend([7, 0].map(shared_set));
     all.extend([0, 7, 8, 13].map(counters));
     all.extend([

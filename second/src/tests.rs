@@ -1,5 +1,5 @@
 //! What the paper says in so many words: cases A–L, the edges, the printed example, each refusal
-//! by its number, the tries left, and the mistakes that are easily made.
+//! by its number, the tries left, what closed bytes show, and the mistakes that are easily made.
 
 use std::collections::HashMap;
 
@@ -356,6 +356,84 @@ fn configuration_rights_go_byte_by_byte() {
     // Rewriting the active password leaves it active.
     t.run(&[7, 0x78, 4, 0, 1, 2, 3]);
     assert_eq!((t.card[counter(7)], t.state), (0, [0, 1, 7, 0]));
+}
+
+/// Registers of a zone that is closed: without the passwords of set 5, without authentication,
+/// without either.
+const CLOSED: [u8; 3] = [0xB7, 0xDF, 0x97];
+
+/// Reads of a zone: address, count and the bytes that they answer, whole zones among them.
+const READS: [(u8, u8, usize); 6] =
+    [(0x00, 1, 1), (0x10, 16, 16), (0xFE, 4, 4), (0xFF, 2, 2), (0x00, 0, 256), (0x80, 0, 256)];
+
+#[test]
+fn closed_zone_shows_the_fuses() {
+    for (fuses, register) in [6, 4, 0].into_iter().flat_map(|f| CLOSED.map(|r| (f, r))) {
+        for (address, count, answered) in READS {
+            // The zone's bytes, its register and its neighbour's bytes are none of these.
+            let mut t = Table::new(fuses).register(register);
+            t.card[..2 * ZONE].fill(0x33);
+            assert_eq!(t.run(&[4, address, count]), vec![fuses; answered]);
+            let mut t = t.active(4);
+            assert_eq!(t.run(&[4, address, count]), vec![fuses; answered]);
+            let mut t = t.active(5).granted();
+            assert_eq!(t.run(&[4, address, count]), vec![0x33; answered]);
+        }
+        assert!(Table::new(7).register(register).shows());
+    }
+}
+
+#[test]
+fn closed_zone_shows_the_fuses_as_they_stand() {
+    let mut t = Table::new(6).register(CLOSED[0]).active(7);
+    for fuses in [6, 4, 0] {
+        assert_eq!(t.run(&[4, 0xFF, 3]), [fuses; 3]);
+        t.run(&[9]);
+    }
+    assert_eq!(t.run(&[4, 0xFF, 3]), [0; 3]);
+    t.verify(13, password(13));
+    assert_eq!(t.run(&[4, 0xFF, 3]), [0xFF; 3]);
+}
+
+#[test]
+fn closed_configuration_byte_shows_zero() {
+    for fuses in [6, 4, 0] {
+        for register in CLOSED {
+            let mut t = Table::new(fuses).register(register);
+            assert_eq!(t.run(&[6, 0x30, 8]), [0; 8]);
+            assert_eq!(t.run(&[6, 0x2F, 2]), [0xFF, 0]);
+            for set in 0..8 {
+                let at = 0x40 + 8 * set;
+                assert_eq!(t.run(&[6, at, 8]), [0xFF, 0, 0, 0, 0xFF, 0, 0, 0]);
+                assert_eq!(t.run(&[6, at + 1, 1]), [0]);
+                assert_eq!(t.run(&[6, at + 7, 1]), [0]);
+            }
+        }
+    }
+    // Write password 7 opens them while PER is unblown, and only its own set's afterwards.
+    assert_eq!(Table::new(6).active(7).run(&[6, 0x40, 4]), [0xFF, 0xA0, 0x5A, 0x3C]);
+    assert_eq!(Table::new(4).active(7).run(&[6, 0x30, 8]), b"secretly");
+    assert_eq!(Table::new(0).active(7).run(&[6, 0x40, 4]), [0xFF, 0, 0, 0]);
+    assert_eq!(Table::new(0).active(7).run(&[6, 0x78, 4]), [0xFF, 0xA7, 0x5A, 0x3C]);
+}
+
+#[test]
+fn closed_reads_are_logged_and_listed() {
+    let session = Author::new(6)
+        .put_register(0, CLOSED[0])
+        .read(0xFF, 2)
+        .read_configuration(0x60, 2)
+        .right(7)
+        .write_fuses()
+        .read(0xFF, 2)
+        .session();
+    let mut space = [0; 3000];
+    let n = run(&session, &mut space).unwrap();
+    let answer = |number| log::answer(&space[..n], number).unwrap();
+    assert_eq!((answer(0), answer(1), answer(4)), (&[6, 6][..], &[0xFF, 0][..], &[4, 4][..]));
+    let lines = "0 04 06 06\n1 06 FF 00\n2 0A\n3 09\n4 04 04 04\n";
+    let tries = "tries 8 8 8 8 8 8 8 8 8 8 8 8 8 8 8 8 8";
+    assert_eq!(listing(&session), format!("{lines}{tries}\nfuses 04\n"));
 }
 
 #[test]

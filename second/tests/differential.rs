@@ -92,6 +92,40 @@ fn every_register_in_every_state() {
     }
 }
 
+/// A read of a closed zone answers F alone, whatever its address and count.
+fn closed_read(card: &mut [u8], address: u8, count: u8) {
+    let fuses = card[FUSES];
+    let needed = if count == 0 { 256 } else { usize::from(count) };
+    let record = [4, address, count];
+    assert_eq!(both::command(FIXED, card, &mut [3, 1, 7, 1], &record, needed - 1), 10);
+    for space in [needed, needed + 5] {
+        let (result, response) = both::answered(FIXED, card, &mut [3, 1, 7, 1], &record, space);
+        assert_eq!(result, (needed as u64) << 8);
+        assert_eq!(response[..needed], vec![fuses; needed], "{address:02X} {count} at F={fuses}");
+    }
+}
+
+#[test]
+fn every_closed_read() {
+    for fuses in [6, 4, 0] {
+        // The passwords of set 5 are wanted, then authentication, then both.
+        for register in [0xB7, 0xDF, 0x97] {
+            let mut card = marked_card(fuses);
+            card[REGISTERS + 3] = register;
+            for address in 0..=255 {
+                for count in [1, 2, 3, 16, 255, 0] {
+                    closed_read(&mut card, address, count);
+                }
+            }
+            for count in 0..=255 {
+                for address in [0, 0x7F, 0xFE, 0xFF] {
+                    closed_read(&mut card, address, count);
+                }
+            }
+        }
+    }
+}
+
 #[test]
 fn every_configuration_byte_in_every_state() {
     for fuses in STAGES {
@@ -288,6 +322,12 @@ fn has_gap(counter: u8) -> bool {
     counter.leading_ones() != counter.count_ones()
 }
 
+/// Whether a register keeps a state from reading its zone below F = 7.
+fn closed(register: u8, state: [u8; 4]) -> bool {
+    let opened = state[1] == 1 && state[2] & 7 == register >> 2 & 7;
+    register & 0x40 == 0 && !opened || register & 0x20 == 0 && state[3] != 2
+}
+
 /// Notes the deep states that a call has reached.
 fn reached(met: &mut Met, record: &[u8], before: &[u8], was: [u8; 4], card: &[u8], state: [u8; 4]) {
     met.note_if("fuse blown", card[FUSES] != before[FUSES]);
@@ -298,6 +338,11 @@ fn reached(met: &mut Met, record: &[u8], before: &[u8], was: [u8; 4], card: &[u8
             met.note_if("read under RPE and ATE, granted", register & 0x60 == 0 && was[3] == 2);
             let rolled = usize::from(record[1]) + usize::from(record[2]) > 256;
             met.note_if("roll-over", rolled);
+            if closed(register, was) {
+                met.note(&format!("closed read at F={}", before[FUSES]));
+                met.note_if("closed read, roll-over", rolled);
+                met.note_if("closed read, whole zone", record[2] == 0);
+            }
         }
         5 if before[FUSES] != 7 => {
             let changed = before[zone..zone + 256] != card[zone..zone + 256];
@@ -365,6 +410,8 @@ fn lists_of_commands() {
         "right password", "wrong password", "last try lost", "locked, right", "locked, wrong",
         "granted", "rejected", "lost", "again",
         "wrong password, counter with a gap", "begun, counter with a gap",
+        "closed read at F=6", "closed read at F=4", "closed read at F=0",
+        "closed read, roll-over", "closed read, whole zone",
     ];
     for what in deep {
         met.require(what, 200);

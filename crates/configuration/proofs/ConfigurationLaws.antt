@@ -10,9 +10,9 @@ use Rattle.model.specs.Lists.{at, tab, stores}
 use Rattle.laws.specs.ListLaws.{tab-cong}
 use Rattle.model.specs.Volatile.{Volatile}
 use Rattle.model.specs.Command.{readConfiguration, writeConfiguration}
-use Rattle.model.specs.Access.{configurationAllows}
-use Rattle.laws.specs.AccessLaws.{fuse-rule, configuration-read, configuration-written, configuration-merged}
-use Rattle.model.specs.At88sc1608.{at88sc1608, configurationByte, configurationCell, configurationAt}
+use Rattle.laws.specs.AccessLaws.{fuse-rule, configuration-written, configuration-merged}
+use Rattle.laws.specs.ReadLaws.{configuration-answer}
+use Rattle.model.specs.At88sc1608.{at88sc1608, configurationCell, configurationAt}
 use Rattle.model.specs.Apply.{rules, kept}
 use Rattle.model.specs.Apply as any
 use Rattle.laws.specs.Loops.{stores-cong, stores-part}
@@ -21,17 +21,10 @@ use Rattle.access.specs.Column.{columnOf, columnAllows, column-allows}
 use Rattle.configuration.specs.ConfigurationPage.{allowedOf}
 
 module _ (c : List ℕ) (s : Volatile) (a : ℕ) where
-  configuration-shown : (n k : ℕ) → a + n ≤ 128 → k < n → any.shown at88sc1608 c s (configurationByte a k)
-      ≡ cond (configurationAllows 0 (at c fuseAt) (a + k) (s .active)) (at c (configurationAt + (a + k))) 0
-  configuration-shown n k h l =
-      let e : configurationByte a k ≡ configurationAt + (a + k) = omega arith in
-      let w : configurationAt + (a + k) - configurationAt ≡ a + k = omega arith in
-      rw (configuration-read (rules at88sc1608 c) s (configurationByte a k) (omega arith) (omega arith), fuse-rule c, e, w)
-
   pub read-configuration : (codes : List ℕ) (n : ℕ) → codes ≡ columnOf 0 (at c fuseAt) → a + n ≤ 128 → apply c s (readConfiguration a n) .report .answer
       ≡ tab (λ k. cond (columnAllows codes (a + k) (s .active)) (at c (configurationAt + (a + k))) 0) n
-  unfolding any.apply
-  read-configuration codes n e h = tab-cong _ _ n (λ k l. rw (e, column-allows 0 (at c fuseAt) (a + k) (s .active)) (configuration-shown n k h l))
+  read-configuration codes n e h =
+      configuration-answer c s a n h ∙ tab-cong _ _ n (λ k l. rw (e, column-allows 0 (at c fuseAt) (a + k) (s .active)))
 
   pub write-configuration : (codes xs ys : List ℕ) (first base : ℕ) → codes ≡ columnOf 1 (at c fuseAt) → first ≡ a / 16 * 16 → base ≡ configurationAt + first
       → a < 128

@@ -11,7 +11,7 @@ use Rattle.laws.specs.ListLaws.{at-tab}
 use Rattle.laws.specs.BoolLaws.{choice}
 use Rattle.model.specs.Volatile.{Volatile}
 use Rattle.model.specs.Access.{zoneReadable, zoneWritable, zoneMerge, areaOf, stageOf, configurationAllows}
-use Rattle.model.specs.At88sc1608.{at88sc1608, registerAt, ruleAt, fuses, registerOf, mayRead, mayWrite, merge, configurationAt}
+use Rattle.model.specs.At88sc1608.{at88sc1608, registerAt, ruleAt, fuses, registerOf, mayRead, mayWrite, merge, concealed, configurationAt}
 use Rattle.model.specs.Apply.{rules}
 
 -- ---- the rule bytes of a card
@@ -26,6 +26,10 @@ register-rule c z h =
 
 -- ---- a place of a zone
 
+-- the register of the zone that it lies in
+pub zone-register : (c : List ℕ) (z i : ℕ) → i / 256 ≡ z % 8 → registerOf (rules at88sc1608 c) (i / 256) ≡ at c (registerAt z)
+zone-register c z i e = let w : z % 8 % 8 ≡ z % 8 = omega arith in rw e (register-rule c (z % 8) (omega arith) ∙ rw w)
+
 pub zone-read : (ρ : List ℕ) (s : Volatile) (i : ℕ) → i < configurationAt → mayRead ρ s i ≡ zoneReadable (fuses ρ) (registerOf ρ (i / 256)) s
 unfolding mayRead
 zone-read ρ s i h = rw (lt-ltb i configurationAt h)
@@ -37,6 +41,9 @@ zone-written ρ s i h = rw (lt-ltb i configurationAt h)
 pub zone-merged : (ρ : List ℕ) (i old new : ℕ) → i < configurationAt → merge ρ i old new ≡ zoneMerge (fuses ρ) (registerOf ρ (i / 256)) old new
 unfolding merge
 zone-merged ρ i old new h = rw (lt-ltb i configurationAt h)
+
+pub zone-concealed : (ρ : List ℕ) (i : ℕ) → i < configurationAt → concealed ρ i ≡ fuses ρ
+zone-concealed ρ i h = rw (lt-ltb i configurationAt h)
 
 -- ---- a place of the configuration
 
@@ -53,6 +60,9 @@ configuration-written ρ s i h k = rw (le-ltb i configurationAt h, lt-ltb i fuse
 pub configuration-merged : (ρ : List ℕ) (i old new : ℕ) → configurationAt ≤ i → merge ρ i old new ≡ new
 unfolding merge
 configuration-merged ρ i old new h = rw (le-ltb i configurationAt h)
+
+pub configuration-concealed : (ρ : List ℕ) (i : ℕ) → configurationAt ≤ i → concealed ρ i ≡ 0
+configuration-concealed ρ i h = rw (le-ltb i configurationAt h)
 
 -- ---- the entries of the table exist
 

@@ -19,3 +19,10 @@ and-false false = refl
 pub choice : (P : ℕ → Type 0) (t : Bool) (x y : ℕ) → P x → P y → P (cond t x y)
 choice P true x y p q = p
 choice P false x y p q = q
+
+-- which of two is chosen, where the test is known by another name
+pub chosen : (t b : Bool) (x y : ℕ) → t ≡ b → t ≡ true → x ≡ cond b x y
+chosen t b x y e f = rw (← e, f)
+
+pub unchosen : (t b : Bool) (x y : ℕ) → t ≡ b → t ≡ false → y ≡ cond b x y
+unchosen t b x y e f = rw (← e, f)

@@ -12,5 +12,6 @@ pub mod RecordLaws
 pub mod SingleLaws
 pub mod ReaderLaws
 pub mod AccessLaws
+pub mod ReadLaws
 pub mod Effects
 pub mod Sane

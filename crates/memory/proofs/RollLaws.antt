@@ -1,10 +1,8 @@
 -- A read that rolls over, run by run.
 use Prim.Native.Nat.{ℕ, _+_, _-_, _%_, _≤_, _<_, min}
-use mathlib.Core.Bool.{Bool, true, false, cond, not}
 use mathlib.Core.List.{List, _++_}
 use mathlib.Core.Path.{_≡_, refl, sym, ap, _∙_}
 use native.Mathlib.Omega.{arith}
-use borrow.Author.Tests.{not-true, not-false}
 use lib.ListN.{length, take, drop}
 use lib.Seq.{sets, length-sets}
 use Rattle.model.specs.Lists.{at, tab}
@@ -50,16 +48,10 @@ module _ (card : List ℕ) (base address : ℕ) where
               ∙ ap (sets response₀ 0) (sym (tab-add byte i run));
         }
 
-    pub rolling-done : (readable : Bool) → count ≤ i → count ≤ length response₀ → not readable ≡ false
-        → response ≡ tab (λ k. cond readable (byte k) 0) count ++ drop count response₀
-    rolling-done readable h l t =
+    pub rolling-done : count ≤ i → count ≤ length response₀ → response ≡ tab byte count ++ drop count response₀
+    rolling-done h l =
         let few = p .few in
         let z : i ≡ count = omega arith in
         let n = length-tab byte count in
-        rw (not-false readable t)
-        (p .shown ∙ ap (λ (k : ℕ). sets response₀ 0 (tab byte k)) z ∙ sets-front response₀ (tab byte count) (omega arith)
-        ∙ ap (λ (k : ℕ). tab byte count ++ drop k response₀) n)
-
-  pub not-shown : (readable : Bool) (count : ℕ) (response₀ response : List ℕ) → not readable ≡ true → response ≡ tab (λ k. 0) count ++ drop count response₀
-      → response ≡ tab (λ k. cond readable (byte k) 0) count ++ drop count response₀
-  not-shown readable count response₀ response t e = rw (not-true readable t) e
+        p .shown ∙ ap (λ (k : ℕ). sets response₀ 0 (tab byte k)) z ∙ sets-front response₀ (tab byte count) (omega arith)
+        ∙ ap (λ (k : ℕ). tab byte count ++ drop k response₀) n

@@ -12,8 +12,9 @@ use Rattle.laws.specs.ListLaws.{tab-cong}
 use Rattle.model.specs.Volatile.{Volatile}
 use Rattle.model.specs.Command.{readZone, writeZone}
 use Rattle.model.specs.Access.{zoneReadable, zoneWritable}
-use Rattle.laws.specs.AccessLaws.{fuse-rule, register-rule, zone-read, zone-written, zone-merged}
-use Rattle.model.specs.At88sc1608.{at88sc1608, zoneByte, zoneCell, registerOf, mayRead, registersAt}
+use Rattle.laws.specs.AccessLaws.{fuse-rule, zone-register, zone-written, zone-merged}
+use Rattle.laws.specs.ReadLaws.{zone-answer}
+use Rattle.model.specs.At88sc1608.{at88sc1608, zoneByte, zoneCell, registerOf, registerAt, registersAt}
 use Rattle.model.specs.Apply.{rules, kept}
 use Rattle.model.specs.Apply as any
 use Rattle.laws.specs.Loops.{stores-cong, stores-kept, stores-part}
@@ -21,30 +22,32 @@ use Rattle.model.specs.Single.{apply}
 use Rattle.memory.specs.ZonePage.{mergesOf, mergedOf}
 
 module _ (c : List ℕ) (s : Volatile) (a : ℕ) (zone : s .zone < 8) where
-  -- the selected zone's register, by a place of that zone
-  register-at : (i : ℕ) → i / 256 ≡ s .zone → registerOf (rules at88sc1608 c) (i / 256) ≡ at c (registersAt + s .zone)
-  register-at i e =
-      let w : registersAt + s .zone % 8 ≡ registersAt + s .zone = omega arith in
-      rw e (register-rule c (s .zone) zone ∙ rw w)
+  -- where the selected zone's register lies
+  register-place : registerAt (s .zone) ≡ registersAt + s .zone
+  register-place = omega arith
 
-  zone-readable : (k : ℕ) → mayRead (rules at88sc1608 c) s (zoneByte (s .zone) a k) ≡ zoneReadable (at c fuseAt) (at c (registersAt + s .zone)) s
-  zone-readable k =
-      zone-read (rules at88sc1608 c) s (zoneByte (s .zone) a k) (omega arith)
-      ∙ rw (fuse-rule c, register-at (zoneByte (s .zone) a k) (omega arith))
+  -- A read of n bytes: the space was d and is l.
+  module _ (n : ℕ) (readable : Bool) (d l : List ℕ) (e : readable ≡ zoneReadable (at c fuseAt) (at c (registersAt + s .zone)) s) where
+    read-zone : l ≡ tab (λ k. cond readable (at c (s .zone * 256 + (a + k) % 256)) (at c fuseAt)) n ++ drop n d
+        → l ≡ apply c s (readZone a n) .report .answer ++ drop n d
+    read-zone q =
+        rw (zone-answer c s a n)
+        (q ∙ ap (λ (x : List ℕ). x ++ drop n d)
+        (tab-cong _ _ n (λ k h. let w : zoneByte (s .zone) a k ≡ s .zone * 256 + (a + k) % 256 = omega arith in rw (register-place, ← e, w))))
 
-  pub read-zone : (n : ℕ) (readable : Bool) (d l : List ℕ) → readable ≡ zoneReadable (at c fuseAt) (at c (registersAt + s .zone)) s
-      → l ≡ tab (λ k. cond readable (at c (s .zone * 256 + (a + k) % 256)) 0) n ++ drop n d → l ≡ apply c s (readZone a n) .report .answer ++ drop n d
-  unfolding any.apply
-  read-zone n readable d l e q =
-      q ∙ ap (λ (x : List ℕ). x ++ drop n d)
-      (tab-cong _ _ n (λ k h. let w : zoneByte (s .zone) a k ≡ s .zone * 256 + (a + k) % 256 = omega arith in rw (zone-readable k, ← e, w)))
+    pub read-zone-shut : not readable ≡ true → l ≡ tab (λ k. at c fuseAt) n ++ drop n d → l ≡ apply c s (readZone a n) .report .answer ++ drop n d
+    read-zone-shut t q = read-zone (rw (not-true readable t) q)
+
+    pub read-zone-open : not readable ≡ false → l ≡ tab (λ k. at c (s .zone * 256 + (a + k) % 256)) n ++ drop n d
+        → l ≡ apply c s (readZone a n) .report .answer ++ drop n d
+    read-zone-open t q = read-zone (rw (not-false readable t) q)
 
   -- what a store leaves at a cell of the zone
   zone-kept : (k old new : ℕ) → kept at88sc1608 (rules at88sc1608 c) s (zoneCell (s .zone) a k) old new
       ≡ cond (zoneWritable (at c fuseAt) (at c (registersAt + s .zone)) s) (mergedOf (mergesOf (at c fuseAt) (at c (registersAt + s .zone))) old new) old
   zone-kept k old new =
       let i : ℕ = zoneCell (s .zone) a k in
-      let e : registerOf (rules at88sc1608 c) (i / 256) ≡ at c (registersAt + s .zone) = register-at i (omega arith) in
+      let e : registerOf (rules at88sc1608 c) (i / 256) ≡ at c (registersAt + s .zone) = zone-register c (s .zone) i (omega arith) ∙ rw register-place in
       rw (zone-written (rules at88sc1608 c) s i (omega arith), zone-merged (rules at88sc1608 c) i old new (omega arith), fuse-rule c, e)
 
   pub write-zone-shut : (xs : List ℕ) (writable : Bool) → writable ≡ zoneWritable (at c fuseAt) (at c (registersAt + s .zone)) s → not writable ≡ true

@@ -1,6 +1,5 @@
 // Reading and writing the selected zone.
 ghost use mathlib.Core.Path.{_≡_};
-ghost use mathlib.Core.Bool.{cond};
 ghost use mathlib.Core.List.{_++_};
 ghost use Prim.Native.Nat.{_+_, _%_, _<_, _≤_};
 ghost use lib.ListN.{length, drop};
@@ -17,21 +16,16 @@ use access::rights::zone_writable;
 use access::volatile::Volatile;
 use sizes::FUSES;
 use sizes::REGISTERS;
-use slices::clear;
 use slices::copy;
+use slices::fill;
 use slices::least;
 
-// count bytes of the 256 from base on, starting at the address and going on at the first past the last; $00 for each where the
-// zone may not be read.
-fn roll(card: &[u8], base: usize, address: usize, count: usize, readable: bool, response: &mut [u8])
+// count bytes of the 256 from base on, starting at the address and going on at the first past the last.
+fn roll(card: &[u8], base: usize, address: usize, count: usize, response: &mut [u8])
     requires { ⌜ (base + 256 ≤ length (now card)) × (address < 256) × (count ≤ length (now response)) ⌝ }
     ensures { λ _. ⌜ now (response .exit)
-        ≡ tab (λ k. cond readable (at (now (card .entry)) (base + (address + k) % 256)) 0) count ++ drop count (now (response .entry)) ⌝ }
+        ≡ tab (λ k. at (now (card .entry)) (base + (address + k) % 256)) count ++ drop count (now (response .entry)) ⌝ }
 {
-    if !readable {
-        clear(response, count);
-        return;
-    }
     let mut i = 0;
     let mut next = address;
     while i < count {
@@ -42,22 +36,21 @@ fn roll(card: &[u8], base: usize, address: usize, count: usize, readable: bool, 
     }
 }
 
-// helper: read zone.
+// helper: read zone. Where it may not be read, each byte is answered by F.
 pub fn read_zone(card: &[u8], state: Volatile, address: u8, count: usize, response: &mut [u8])
     requires { ⌜ (length (now card) ≡ cardSize) × (state .zone .0 < 8) × (count ≤ length (now response)) ⌝ }
     ensures { λ _. ⌜ now (response .exit)
         ≡ apply (now (card .entry)) (volatileOf state) (readZone address count) .report .answer ++ drop count (now (response .entry)) ⌝ }
 {
     let zone = state.zone.0 as usize;
-    let readable = zone_readable(card[FUSES], card[REGISTERS + zone], state);
-    roll(
-        card,
-        zone * 256,
-        address as usize,
-        count,
-        readable,
-        response,
-    );
+    let fuses = card[FUSES];
+    let register = card[REGISTERS + zone];
+    let readable = zone_readable(fuses, register, state);
+    if !readable {
+        fill(response, count, fuses);
+        return;
+    }
+    roll(card, zone * 256, address as usize, count, response);
 }
 
 // Whether a write to a zone clears bits only.

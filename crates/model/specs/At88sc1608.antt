@@ -74,6 +74,10 @@ mayWrite ρ s i =
 unfoldable pub merge : List ℕ → ℕ → ℕ → ℕ → ℕ
 merge ρ i old new = cond (ltb i configurationAt) (zoneMerge (fuses ρ) (registerOf ρ (i / 256)) old new) new
 
+-- a place that may not be read: F in a zone, $00 in the configuration ("The byte shown for a closed zone")
+abbrev pub concealed : List ℕ → ℕ → ℕ
+concealed ρ i = cond (ltb i configurationAt) (fuses ρ) 0
+
 -- ---- the fuses: 7, 6, 4, 0
 
 unfoldable pub blow : ℕ → ℕ
@@ -91,7 +95,7 @@ at88sc1608 =
       mayRead = mayRead;
       mayWrite = mayWrite;
       merge = merge;
-      concealed = λ ρ i. 0;
+      concealed = concealed;
       zoneByte = zoneByte;
       zoneCell = zoneCell;
       configurationByte = configurationByte;

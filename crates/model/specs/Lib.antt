@@ -22,3 +22,4 @@ pub mod Trials
 pub mod Cases
 pub mod Mistakes
 pub mod Attempts
+pub mod ClosedBytes

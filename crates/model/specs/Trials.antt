@@ -1,5 +1,5 @@
 -- Trials: records sent one by one, as single commands, to a whole card that was just powered up. What the tables of cases, of
--- mistakes and of attempts are computed with.
+-- mistakes, of attempts and of closed bytes are computed with.
 use Prim.Native.Nat.{ℕ, _+_, _-_}
 use mathlib.Core.List.{List, [], _∷_, _++_, map}
 use lib.ListN.{replicate}

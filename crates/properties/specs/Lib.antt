@@ -13,6 +13,7 @@ pub mod Refused
 pub mod OneCommand
 pub mod LogReading
 pub mod TriesLeft
+pub mod ClosedReads
 pub mod SessionSecrecy
 -- what proves them: of sessions and of refusals
 pub mod SessionLaws

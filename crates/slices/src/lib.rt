@@ -1,4 +1,4 @@
-// Runs of bytes in slices: copied, made $00; and the lesser of two lengths.
+// Runs of bytes in slices: copied, filled; and the lesser of two lengths.
 ghost use mathlib.Core.Path.{_≡_};
 ghost use mathlib.Core.List.{_++_};
 ghost use Prim.Native.Nat.{_+_, _≤_, min};
@@ -18,14 +18,14 @@ pub fn copy(to: &mut [u8], at: usize, from: &[u8], start: usize, count: usize)
     }
 }
 
-// helper: the first bytes of a slice made $00.
-pub fn clear(to: &mut [u8], count: usize)
+// helper: the first bytes of a slice, each made the same byte.
+pub fn fill(to: &mut [u8], count: usize, byte: u8)
     requires { ⌜ count ≤ length (now to) ⌝ }
-    ensures { λ _. ⌜ now (to .exit) ≡ tab (λ k. 0) count ++ drop count (now (to .entry)) ⌝ }
+    ensures { λ _. ⌜ now (to .exit) ≡ tab (λ k. byte) count ++ drop count (now (to .entry)) ⌝ }
 {
     let mut at = 0;
     while at < count {
-        to[at] = 0;
+        to[at] = byte;
         at += 1;
     }
 }

@@ -74,6 +74,17 @@ fn untouched(result: u64, before: &[&[u8]], after: &mut [&mut Lent]) {
 
 /// A single command on both; `card` and `state` are then as the call leaves them.
 pub fn command(seed: &str, card: &mut [u8], state: &mut [u8], record: &[u8], space: usize) -> u64 {
+    answered(seed, card, state, record, space).0
+}
+
+/// The same; answers the result and the response space.
+pub fn answered(
+    seed: &str,
+    card: &mut [u8],
+    state: &mut [u8],
+    record: &[u8],
+    space: usize,
+) -> (u64, Vec<u8>) {
     let response = filled(space);
     let lend = || [&*card, &*state, record, &response].map(Lent::new);
     let (mut p, mut s) = (lend(), lend());
@@ -89,7 +100,7 @@ pub fn command(seed: &str, card: &mut [u8], state: &mut [u8], record: &[u8], spa
     untouched(proved, &[card, state, &response], &mut [pc, ps, pa]);
     card.copy_from_slice(p[0].bytes());
     state.copy_from_slice(p[1].bytes());
-    proved
+    (proved, p[3].bytes().to_vec())
 }
 
 /// A session on both; answers the result and the log space.

@@ -1,5 +1,6 @@
 -- Each return by its test.
 use borrow.Author.Needs.{needs}
+use Rattle.laws.specs.BoolLaws.{chosen, unchosen}
 use Rattle.configuration.proofs.shown.Statement.{statement}
 use Rattle.configuration.proofs.shown.Tie as tie
 
@@ -13,10 +14,10 @@ configuration-allows-requires : tie.Need-configuration-allows-requires
 configuration-allows-requires c κs = search needs
 
 returns : tie.Need-returns
-returns c = rw (← (c .before .configuration-allows .ensures), c .if1 .taken)
+returns c = search (needs, chosen)
 
 returns-2 : tie.Need-returns-2
-returns-2 c = rw (← (c .before .configuration-allows .ensures), c .if1 .left)
+returns-2 c = search (needs, unchosen)
 
 pub shown-spec : {M : Type 1} → statement M
 shown-spec =

@@ -1,30 +1,18 @@
 -- What is known when i bytes are answered is `Rolling`.
 use Prim.Native.Nat.{_-_}
 use borrow.Author.Needs.{needs}
-use Rattle.memory.proofs.RollLaws.{Rolling, rolling-start, rolling-long, rolling-next, rolling-done, not-shown}
+use Rattle.memory.proofs.RollLaws.{Rolling, rolling-start, rolling-long, rolling-next, rolling-done}
 use Rattle.memory.proofs.zone.roll.Statement.{statement}
 use Rattle.memory.proofs.zone.roll.Tie as tie
 
 abbrev Inv-loop : tie.InvT-loop
-Inv-loop card base address count readable response₀ i₀ next₀ response i next = Rolling card base address count i next response₀ response
+Inv-loop card base address count response₀ i₀ next₀ response i next = Rolling card base address count i next response₀ response
 
 abbrev μ-loop : tie.MeasureT-loop
-μ-loop card base address count readable response₀ i₀ next₀ response i next = count - i
-
-clear-requires : tie.Need-clear-requires Inv-loop μ-loop
-clear-requires c κs = search needs
-
-same-length : tie.Need-same-length Inv-loop μ-loop
-same-length c = search needs
-
-returns : tie.Need-returns Inv-loop μ-loop
-returns c =
-    let start = c .before .before .before .before .before .before .before in
-    let if1 = c .before .before .before .before .if1 in
-    not-shown (start .args .card .now) (start .args .base) (start .args .address) (start .args .readable) _ _ _ (if1 .taken) (c .before .before .clear .ensures)
+μ-loop card base address count response₀ i₀ next₀ response i next = count - i
 
 loop-holds : tie.Need-loop-holds Inv-loop μ-loop
-loop-holds c = rolling-start _ _ _ _ _ (c .before .before .before .pre .1)
+loop-holds c = rolling-start _ _ _ _ _ (c .before .before .pre .1)
 
 sub-least : tie.Need-sub-least Inv-loop μ-loop
 sub-least c = search needs
@@ -40,9 +28,8 @@ add-copy c = search needs
 
 copy-requires : tie.Need-copy-requires Inv-loop μ-loop
 copy-requires c κs =
-    let the-loop = c .before .before .before .loop in
-    let p = c .before .before .before .before .before .before .before .pre in
-    let l = rolling-long _ _ _ _ _ _ _ _ (the-loop .inv) in
+    let p = c .before .before .before .before .before .before .pre in
+    let l = rolling-long _ _ _ _ _ _ _ _ (c .before .before .before .loop .inv) in
     let m = c .before .least .ensures in
     search needs
 
@@ -54,19 +41,19 @@ loop-less c = search needs
 
 loop-again : tie.Need-loop-again Inv-loop μ-loop
 loop-again c =
-    let start = c .before .before .before .before .before .before .before .before .before .before in
+    let start = c .before .before .before .before .before .before .before .before .before in
     let the-loop = c .before .before .before .before .before .before .loop in
     let loop-test = c .before .before .before .before .before .loop-test in
     let least = c .before .before .before .before .least in
     rolling-next _ _ _ _ _ _ _ _ (the-loop .inv) _ _ (loop-test .taken) (start .pre .0) (least .ensures) (c .before .before .copy .ensures)
 
-same-length-2 : tie.Need-same-length-2 Inv-loop μ-loop
-same-length-2 c = rolling-long _ _ _ _ _ _ _ _ (c .before .loop .inv)
+same-length : tie.Need-same-length Inv-loop μ-loop
+same-length c = rolling-long _ _ _ _ _ _ _ _ (c .before .loop .inv)
 
-returns-2 : tie.Need-returns-2 Inv-loop μ-loop
-returns-2 c =
-    let start = c .before .before .before .before .before in
-    rolling-done _ _ _ _ _ _ _ _ (c .before .loop .inv) (start .args .readable) (search needs) (start .pre .2) (c .before .before .if1 .left)
+returns : tie.Need-returns Inv-loop μ-loop
+returns c =
+    let start = c .before .before .before .before in
+    rolling-done _ _ _ _ _ _ _ _ (c .before .loop .inv) (search needs) (start .pre .2)
 
 pub roll-spec : {M : Type 1} → statement M
 roll-spec =
@@ -74,9 +61,6 @@ roll-spec =
     (tie.spec
     Inv-loop
     μ-loop
-    clear-requires
-    same-length
-    returns
     loop-holds
     sub-least
     sub-least-2
@@ -86,5 +70,5 @@ roll-spec =
     add-i
     loop-less
     loop-again
-    same-length-2
-    returns-2)
+    same-length
+    returns)

@@ -1,19 +1,19 @@
--- The zeros so far stand at the front, and the rest is untouched.
+-- The bytes so far stand at the front, and the rest is untouched.
 use Prim.Native.Nat.{_-_, _≤_}
 use borrow.Author.Needs.{needs}
 use lib.ListN.{length, drop}
 use mathlib.Core.List.{_++_}
-use mathlib.Core.Path.{_≡_, refl}
+use mathlib.Core.Path.{_≡_}
 use Rattle.model.specs.Lists.{tab}
 use Rattle.laws.specs.Loops.{tab-start, tab-next, tab-done}
-use Rattle.slices.proofs.clear.Statement.{statement}
-use Rattle.slices.proofs.clear.Tie as tie
+use Rattle.slices.proofs.fill.Statement.{statement}
+use Rattle.slices.proofs.fill.Tie as tie
 
 abbrev Inv-loop : tie.InvT-loop
-Inv-loop to₀ count at₀ to at = (at ≤ count) × (length to ≡ length to₀) × (to ≡ tab (λ k. 0) at ++ drop at to₀)
+Inv-loop to₀ count byte at₀ to at = (at ≤ count) × (length to ≡ length to₀) × (to ≡ tab (λ k. byte) at ++ drop at to₀)
 
 abbrev μ-loop : tie.MeasureT-loop
-μ-loop to₀ count at₀ to at = count - at
+μ-loop to₀ count byte at₀ to at = count - at
 
 loop-holds : tie.Need-loop-holds Inv-loop μ-loop
 loop-holds c = search (needs, tab-start)
@@ -28,16 +28,16 @@ loop-less : tie.Need-loop-less Inv-loop μ-loop
 loop-less c = search needs
 
 loop-again : tie.Need-loop-again Inv-loop μ-loop
-loop-again c = (search needs, search needs, tab-next (λ k. 0) _ _ _ _ _ (c .before .loop .inv .2) (c .loop-test .taken) (c .before .before .pre) refl)
+loop-again c = search (needs, tab-next)
 
 same-length : tie.Need-same-length Inv-loop μ-loop
 same-length c = search needs
 
 returns : tie.Need-returns Inv-loop μ-loop
-returns c = tab-done (λ k. 0) _ _ _ _ (c .before .loop .inv .2) (c .before .loop .inv .0) (search needs)
+returns c = search tab-done
 
-pub clear-spec : {M : Type 1} → statement M
-clear-spec =
+pub fill-spec : {M : Type 1} → statement M
+fill-spec =
     tie.close
     (tie.spec
     Inv-loop
