@@ -225,6 +225,23 @@ fn nearly_right() -> Author {
         .read_counter(9)
 }
 
+/// Passwords presented in another order, without their third byte, or with something moved from one
+/// byte to its neighbour; after each the counter is read.
+fn traded_bytes() -> Author {
+    let wrong: [(u8, [u8; 3], &[[u8; 3]]); 2] = [
+        (2, [1, 2, 3], &[[3, 2, 1], [2, 1, 3], [1, 3, 2], [1, 2, 0], [0, 6, 3], [1, 0, 5]]),
+        (11, [0, 1, 0], &[[0, 0, 1], [1, 0, 0], [0, 0, 0], [0, 1, 1], [0xFF, 0, 0], [0, 0, 0xFF]]),
+    ];
+    wrong.into_iter().fold(Author::new(0), |author, (selector, right, wrong)| {
+        let at = counter(selector) + 1 - CONFIGURATION;
+        let author = author.put_configuration(at, &right);
+        let present = |author: Author, &bytes: &[u8; 3]| {
+            author.verify(selector, bytes).read_counter(selector)
+        };
+        present(wrong.iter().fold(author, present), &right)
+    })
+}
+
 /// What power, reset and an exhausted counter leave of zone and authentication.
 fn kept_and_lost() -> Author {
     Author::new(0)
@@ -294,6 +311,7 @@ fn accepted() -> Vec<Author> {
         blown_on_the_way(),
         wrong_keeps_none(),
         nearly_right(),
+        traded_bytes(),
         kept_and_lost(),
         still_granted(),
         Author::new(4).times(MOST_RECORDS.into(), Author::power),

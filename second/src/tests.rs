@@ -257,6 +257,32 @@ fn tries_after_a_password() {
 }
 
 #[test]
+fn a_password_is_right_in_all_three_bytes() {
+    #[rustfmt::skip]
+    let cases = [
+        ([1, 2, 3], [1, 2, 3], true), ([0, 0, 0], [0, 0, 0], true), ([255; 3], [255; 3], true),
+        // One byte is wrong.
+        ([1, 2, 3], [0, 2, 3], false), ([1, 2, 3], [1, 0, 3], false), ([1, 2, 3], [1, 2, 0], false),
+        ([0, 0, 0], [0, 0, 0x80], false), ([255; 3], [255, 255, 0x7F], false),
+        // The bytes are right and their order is wrong.
+        ([1, 2, 3], [3, 2, 1], false), ([1, 2, 3], [2, 1, 3], false), ([1, 2, 3], [1, 3, 2], false),
+        // One byte has more, another less.
+        ([1, 2, 3], [1, 0, 5], false), ([1, 2, 3], [1, 1, 4], false), ([0, 1, 0], [255, 0, 0], false),
+        ([0, 0, 1], [0, 255, 0], false), ([0, 0, 1], [255, 255, 0], false),
+    ];
+    for selector in 0..16 {
+        for (stored, presented, right) in cases {
+            let at = counter(selector);
+            let places = [at + 1, at + 2, at + 3].into_iter().zip(stored);
+            let mut t = places.fold(Table::new(0), |t, (place, byte)| t.set(place, byte));
+            let (tries, active) = if right { (8, [1, selector]) } else { (7, [0, 0]) };
+            assert_eq!(t.verify(selector, presented), tries, "{stored:?} {presented:?}");
+            assert_eq!(t.state[1..3], active);
+        }
+    }
+}
+
+#[test]
 fn tries_after_begun_authentication() {
     #[rustfmt::skip]
     let cases = [

@@ -183,6 +183,38 @@ fn every_counter_value() {
     }
 }
 
+/// Presents a password on a card that holds another or the same, and expects the tries left to tell
+/// whether all three bytes are right.
+fn present(selector: u8, stored: [u8; 3], presented: [u8; 3]) {
+    let at = counter(selector);
+    let mut card = marked_card(STAGES[usize::from(selector & 3)]);
+    card[at + 1..at + 4].copy_from_slice(&stored);
+    let record = [&[10, selector][..], &presented].concat();
+    let mut state = [5, 1, (selector + 3) % 16, selector % 3];
+    let result = both::command(FIXED, &mut card, &mut state, &record, 0);
+    let left = if stored == presented { 8 } else { 7 };
+    assert_eq!(result, tries(left), "selector {selector}: {stored:02X?}, {presented:02X?}");
+}
+
+#[test]
+fn every_password_beside_another() {
+    // Every value of one byte, the others being right.
+    for selector in 0..16 {
+        for (place, byte) in (0..3).flat_map(|place| (0..=255).map(move |byte| (place, byte))) {
+            let stored = [0x5A, 0xFF, selector];
+            let mut presented = stored;
+            presented[place] = byte;
+            present(selector, stored, presented);
+        }
+    }
+    // Bytes that a sum of weighed bytes might confuse, in every place of both.
+    const BYTES: [u8; 5] = [0x00, 0x01, 0x7F, 0x80, 0xFF];
+    let three = |n: usize| [n, n / 5, n / 25].map(|digits| BYTES[digits % 5]);
+    for (one, other) in (0..125).flat_map(|one| (0..125).map(move |other| (one, other))) {
+        present((one + other) as u8 % 16, three(one), three(other));
+    }
+}
+
 #[test]
 fn every_plain_command_in_every_state() {
     for fuses in STAGES {

@@ -13,5 +13,6 @@ pub mod SingleLaws
 pub mod ReaderLaws
 pub mod AccessLaws
 pub mod ReadLaws
+pub mod WordLaws
 pub mod Effects
 pub mod Sane

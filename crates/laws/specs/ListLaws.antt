@@ -8,9 +8,9 @@ use native.Mathlib.Numerals.{add-one}
 use native.Mathlib.Omega.{arith}
 use borrow.Author.Tests.{ltb-true, ltb-false, eqb-true, eqb-false, eq-eqb}
 use lib.Dec.{ltb, eqb}
-use lib.ListN.{length, take, drop, set, length-append, length-drop, List·getD-append}
+use lib.ListN.{length, take, drop, set, length-append, length-drop, List·getD-append, List·getD-eq-default}
 use lib.Seq.{getD-set-same, getD-set-other, set-out, getD-at, getD-drop, take-suc}
-use Rattle.model.specs.Lists.{at, tab, sameList}
+use Rattle.model.specs.Lists.{at, tab, sameList, Bytes}
 use Rattle.laws.specs.BoolLaws.{choice, and-left, and-right}
 
 pub length-tab : (f : ℕ → ℕ) (n : ℕ) → length (tab f n) ≡ n
@@ -38,6 +38,16 @@ at-tab f (suc n) i h = go (at-tab f n i) (eqb i n) refl
         let ne : i ≡ n → ⊥ = eqb-false i n e in
         let l : i < n = omega arith in
         List·getD-append (tab f n) (f n ∷ []) 0 i (rw (length-tab f n) l) ∙ ih l
+
+pub tab-bytes : (f : ℕ → ℕ) (n : ℕ) → ((i : ℕ) → f i < 256) → Bytes (tab f n)
+tab-bytes f n b i = go (ltb i n) refl
+  where
+    go : (t : Bool) → ltb i n ≡ t → at (tab f n) i < 256
+    go true e = rw (at-tab f n i (ltb-true i n e)) (b i)
+    go false e =
+        let l = length-tab f n in
+        let o : n ≤ i = ltb-false i n e in
+        let past = List·getD-eq-default (tab f n) 0 (let h : length (tab f n) ≤ i = omega arith in h) in omega arith
 
 pub tab-add : (f : ℕ → ℕ) (m n : ℕ) → tab f (m + n) ≡ tab f m ++ tab (λ k. f (m + k)) n
 unfolding tab

@@ -14,6 +14,7 @@ pub mod OneCommand
 pub mod LogReading
 pub mod TriesLeft
 pub mod ClosedReads
+pub mod PasswordWords
 pub mod SessionSecrecy
 -- what proves them: of sessions and of refusals
 pub mod SessionLaws

@@ -1,5 +1,5 @@
 -- Password verification, from what its tests found.
-use Prim.Native.Nat.{ℕ, _+_}
+use Prim.Native.Nat.{ℕ, suc, _+_, _*_}
 use Rattle.security.specs.Password.{settled}
 use Rattle.model.specs.Apply as any
 use Rattle.model.specs.Apply.{password}
@@ -7,50 +7,33 @@ use Rattle.model.specs.At88sc1608.{at88sc1608, counterAt, passwordByte}
 use Rattle.model.specs.Bits.{triesLeft}
 use Rattle.model.specs.Device.{Spent, spent}
 use Rattle.model.specs.Command.{verifyPassword}
-use Rattle.model.specs.Lists.{at, sameList, tab}
+use Rattle.model.specs.Lists.{at, sameList, tab, Bytes}
+use Rattle.model.specs.Numbers.{numberAt}
+use Rattle.laws.specs.WordLaws.{passwords-tested}
 use Rattle.model.specs.Single.{apply}
 use Rattle.model.specs.Volatile.{Volatile, none, selector, activating}
 use borrow.Author.Tests.{eq-eqb, ne-eqb}
 use lib.Dec.{eqb}
 use lib.ListN.{length, set}
-use mathlib.Core.Bool.{Bool, true, false, _&&_}
-use mathlib.Core.List.{List, [], _∷_}
+use mathlib.Core.Bool.{Bool, true, false}
+use mathlib.Core.List.{List, []}
 use mathlib.Core.Path.{_≡_, refl, ap, _∙_}
 use native.Mathlib.Omega.{arith}
 
--- three bytes are compared one by one
-pub same-three : (xs : List ℕ) (f : ℕ → ℕ) → length xs ≡ 3
-    → sameList xs (tab f 3) ≡ (eqb (at xs 0) (f 0) && (eqb (at xs 1) (f 1) && (eqb (at xs 2) (f 2) && true)))
-unfolding sameList tab
-same-three [] f e = absurd (let z : ⊥ = omega arith in z)
-same-three (a ∷ []) f e = absurd (let z : ⊥ = omega arith in z)
-same-three (a ∷ b ∷ []) f e = absurd (let z : ⊥ = omega arith in z)
-same-three (a ∷ b ∷ d ∷ []) f e = refl
-same-three (a ∷ b ∷ d ∷ g ∷ xs) f e = absurd (let z : ⊥ = omega arith in z)
+-- ---- the word presented, compared with the one behind the counter
 
--- ---- the bytes presented, compared with those behind the counter
+module _ (c xs : List ℕ) (k i : ℕ) (place : i ≡ counterAt k) where
+  behind-counter : numberAt c (i + 1) 3 ≡ numberAt (password at88sc1608 c k) 0 3
+  unfolding tab
+  behind-counter =
+      let e₀ : i + 1 ≡ passwordByte k 0 = omega arith in
+      let e₁ : suc (i + 1) ≡ passwordByte k 1 = omega arith in
+      let e₂ : suc (suc (i + 1)) ≡ passwordByte k 2 = omega arith in
+      λ j. at c (e₀ j) + 256 * (at c (e₁ j) + 256 * (at c (e₂ j) + 256 * 0))
 
-module _ (xs c : List ℕ) (k i : ℕ) (long : length xs ≡ 3) (place : i ≡ counterAt k) where
-  compared : sameList xs (password at88sc1608 c k) ≡ (eqb (at xs 0) (at c (i + 1)) && (eqb (at xs 1) (at c (i + 2)) && (eqb (at xs 2) (at c (i + 3)) && true)))
-  compared =
-      let e₀ : passwordByte k 0 ≡ i + 1 = omega arith in
-      let e₁ : passwordByte k 1 ≡ i + 2 = omega arith in
-      let e₂ : passwordByte k 2 ≡ i + 3 = omega arith in
-      same-three xs (λ n. at c (passwordByte k n)) long
-      ∙ (λ j. eqb (at xs 0) (at c (e₀ j)) && (eqb (at xs 1) (at c (e₁ j)) && (eqb (at xs 2) (at c (e₂ j)) && true)))
-
-  pub wrong-first : (at xs 0 ≡ at c (i + 1) → ⊥) → false ≡ sameList xs (password at88sc1608 c k)
-  wrong-first n = rw (compared, ne-eqb _ _ n)
-
-  pub wrong-second : at xs 0 ≡ at c (i + 1) → (at xs 1 ≡ at c (i + 2) → ⊥) → false ≡ sameList xs (password at88sc1608 c k)
-  wrong-second e n = rw (compared, eq-eqb _ _ e, ne-eqb _ _ n)
-
-  pub third-decides : at xs 0 ≡ at c (i + 1) → at xs 1 ≡ at c (i + 2) → eqb (at xs 2) (at c (i + 3)) ≡ sameList xs (password at88sc1608 c k)
-  third-decides e q = rw (compared, eq-eqb _ _ e, eq-eqb _ _ q) (go (eqb (at xs 2) (at c (i + 3))))
-    where
-      go : (t : Bool) → t ≡ (t && true)
-      go true = refl
-      go false = refl
+  pub compared : Bytes c → Bytes xs → length xs ≡ 3 → (u v : ℕ) → u ≡ numberAt xs 0 3 → v ≡ numberAt c (i + 1) 3
+      → eqb u v ≡ sameList xs (password at88sc1608 c k)
+  compared card bytes three u v p q = (λ j. eqb (p j) ((q ∙ behind-counter) j)) ∙ passwords-tested at88sc1608 c xs k card bytes three
 
 -- ---- the counter and the active password afterwards
 

@@ -17,20 +17,14 @@ use crate::report::Report;
 use access::volatile::Active;
 use access::volatile::Volatile;
 use access::volatile::activating;
+use slices::word_at;
 
 // Whether three bytes are the password of a selector.
 fn is_password(card: &[u8], selector: u8, bytes: &[u8]) -> bool
     requires { ⌜ (length (now card) ≡ cardSize) × (length (now bytes) ≡ 3) ⌝ }
     ensures { λ r. ⌜ r ≡ sameList (now (bytes .entry)) (password at88sc1608 (now (card .entry)) selector) ⌝ }
 {
-    let at = counter_at(selector);
-    if bytes[0] != card[at + 1] {
-        return false;
-    }
-    if bytes[1] != card[at + 2] {
-        return false;
-    }
-    bytes[2] == card[at + 3]
+    word_at(bytes, 0) == word_at(card, counter_at(selector) + 1)
 }
 
 // The counter of a presentation moves, and with it the active password.

@@ -94,6 +94,7 @@ fn main() {
     let zone_reads = Author::new(0).times(most, |a| a.read(0x80, 0)).session();
     let closed_reads = Author::new(4).put_register(0, 0xBF).times(most, |a| a.read(0x80, 0));
     let closed_reads = closed_reads.session();
+    let passwords = Author::new(0).times(most / 2, |a| a.right(9).wrong(9)).session();
     let configuration_reads = Author::new(0).times(most, |a| a.read_configuration(0, 128));
     let configuration_reads = configuration_reads.session();
 
@@ -107,6 +108,7 @@ fn main() {
     sessions("4,096 zone reads of 256", std::slice::from_ref(&zone_reads), &mut log);
     sessions("4,096 closed zone reads of 256", &[closed_reads], &mut log);
     sessions("4,096 configuration reads of 128", &[configuration_reads], &mut log);
+    sessions("4,096 passwords", &[passwords], &mut log);
     log_reads("log reads, 60 records", &mix[0], &mut log);
     log_reads("log reads, 4,096 short records", &short, &mut log);
     log_reads("log reads, 4,096 zone reads", &zone_reads, &mut log);

@@ -1,62 +1,31 @@
--- The bytes are compared one by one.
+-- Two words are compared.
+use native.Mathlib.Omega.{arith}
 use borrow.Author.Needs.{needs}
-use Rattle.security.proofs.PasswordLaws.{wrong-first, wrong-second, third-decides}
+use Rattle.security.proofs.PasswordLaws.{compared}
 use Rattle.security.proofs.password.is_password.Statement.{statement}
 use Rattle.security.proofs.password.is_password.Tie as tie
+
+word-at-requires : tie.Need-word-at-requires
+word-at-requires c κs = search needs
 
 counter-at-requires : tie.Need-counter-at-requires
 counter-at-requires c κs = search needs
 
-shared-slice-read-if1 : tie.Need-shared-slice-read-if1
-shared-slice-read-if1 c = search needs
+add-word-at : tie.Need-add-word-at
+add-word-at c = search needs
 
-add-if1 : tie.Need-add-if1
-add-if1 c = search needs
-
-shared-slice-read-if1-2 : tie.Need-shared-slice-read-if1-2
-shared-slice-read-if1-2 c = search needs
+word-at-requires-2 : tie.Need-word-at-requires-2
+word-at-requires-2 c κs = search needs
 
 returns : tie.Need-returns
-returns c = search wrong-first
-
-shared-slice-read-if2 : tie.Need-shared-slice-read-if2
-shared-slice-read-if2 c = search needs
-
-add-if2 : tie.Need-add-if2
-add-if2 c = search needs
-
-shared-slice-read-if2-2 : tie.Need-shared-slice-read-if2-2
-shared-slice-read-if2-2 c = search needs
-
-returns-2 : tie.Need-returns-2
-returns-2 c = search wrong-second
-
-shared-slice-read-result : tie.Need-shared-slice-read-result
-shared-slice-read-result c = search needs
-
-add-result : tie.Need-add-result
-add-result c = search needs
-
-shared-slice-read-result-2 : tie.Need-shared-slice-read-result-2
-shared-slice-read-result-2 c = search needs
-
-returns-3 : tie.Need-returns-3
-returns-3 c = search third-decides
+returns c =
+    let start = c .before .before .before .before .before in
+    let card-known = c .before .before .before .before .shared-slice-known in
+    let bytes-known = c .before .before .before .shared-slice-known2 in
+    compared (start .args .card .now) (start .args .bytes .now) _ _ (c .before .counter-at .ensures) (λ i. omega (arith, card-known .given i))
+    (λ i. omega (arith, bytes-known .given i)) (start .pre .1) _ _ (c .before .before .word-at .ensures) (c .word-at2 .ensures)
 
 pub is-password-spec : {M : Type 1} → statement M
 is-password-spec =
     tie.close
-    (tie.spec
-    counter-at-requires
-    shared-slice-read-if1
-    add-if1
-    shared-slice-read-if1-2
-    returns
-    shared-slice-read-if2
-    add-if2
-    shared-slice-read-if2-2
-    returns-2
-    shared-slice-read-result
-    add-result
-    shared-slice-read-result-2
-    returns-3)
+    (tie.spec word-at-requires counter-at-requires add-word-at word-at-requires-2 returns)
