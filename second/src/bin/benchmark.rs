@@ -108,7 +108,7 @@ fn main() {
     sessions("4,096 zone reads of 256", std::slice::from_ref(&zone_reads), &mut log);
     sessions("4,096 closed zone reads of 256", &[closed_reads], &mut log);
     sessions("4,096 configuration reads of 128", &[configuration_reads], &mut log);
-    sessions("4,096 passwords", &[passwords], &mut log);
+    sessions("4,096 passwords, every other wrong", &[passwords], &mut log);
     log_reads("log reads, 60 records", &mix[0], &mut log);
     log_reads("log reads, 4,096 short records", &short, &mut log);
     log_reads("log reads, 4,096 zone reads", &zone_reads, &mut log);
