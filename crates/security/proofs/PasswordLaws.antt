@@ -23,15 +23,15 @@ use native.Mathlib.Omega.{arith}
 -- ---- the word presented, compared with the one behind the counter
 
 module _ (c xs : List ℕ) (k i : ℕ) (place : i ≡ counterAt k) where
-  behind-counter : numberAt c (i + 1) 3 ≡ numberAt (password at88sc1608 c k) 0 3
+  behind-counter : numberAt c (suc i) 3 ≡ numberAt (password at88sc1608 c k) 0 3
   unfolding tab
   behind-counter =
-      let e₀ : i + 1 ≡ passwordByte k 0 = omega arith in
-      let e₁ : suc (i + 1) ≡ passwordByte k 1 = omega arith in
-      let e₂ : suc (suc (i + 1)) ≡ passwordByte k 2 = omega arith in
+      let e₀ : suc i ≡ passwordByte k 0 = omega arith in
+      let e₁ : suc (suc i) ≡ passwordByte k 1 = omega arith in
+      let e₂ : suc (suc (suc i)) ≡ passwordByte k 2 = omega arith in
       λ j. at c (e₀ j) + 256 * (at c (e₁ j) + 256 * (at c (e₂ j) + 256 * 0))
 
-  pub compared : Bytes c → Bytes xs → length xs ≡ 3 → (u v : ℕ) → u ≡ numberAt xs 0 3 → v ≡ numberAt c (i + 1) 3
+  pub compared : Bytes c → Bytes xs → length xs ≡ 3 → (u v : ℕ) → u ≡ numberAt xs 0 3 → v ≡ numberAt c (suc i) 3
       → eqb u v ≡ sameList xs (password at88sc1608 c k)
   compared card bytes three u v p q = (λ j. eqb (p j) ((q ∙ behind-counter) j)) ∙ passwords-tested at88sc1608 c xs k card bytes three
 

@@ -1,4 +1,5 @@
 -- Two words are compared.
+use native.Mathlib.Numerals.{add-one}
 use native.Mathlib.Omega.{arith}
 use borrow.Author.Needs.{needs}
 use Rattle.security.proofs.PasswordLaws.{compared}
@@ -23,7 +24,8 @@ returns c =
     let card-known = c .before .before .before .before .shared-slice-known in
     let bytes-known = c .before .before .before .shared-slice-known2 in
     compared (start .args .card .now) (start .args .bytes .now) _ _ (c .before .counter-at .ensures) (λ i. omega (arith, card-known .given i))
-    (λ i. omega (arith, bytes-known .given i)) (start .pre .1) _ _ (c .before .before .word-at .ensures) (c .word-at2 .ensures)
+    (λ i. omega (arith, bytes-known .given i)) (start .pre .1) _ _ (c .before .before .word-at .ensures)
+    (simp add-one at (c .word-at2 .ensures))
 
 pub is-password-spec : {M : Type 1} → statement M
 is-password-spec =
