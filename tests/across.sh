@@ -1,6 +1,6 @@
 #!/usr/bin/env bash
 # Wrong models that a theorem of another crate must refuse. Each tests/across/NAME.edit changes crate `model` (and where a law has to
-# follow, crate `laws`); the model without its computed tables must still be proved, and the crate that the edit names must not be.
+# follow, that law); the model without its computed tables must still be proved, and the crate that the edit names must not be.
 # Lines of an edit: 'refused-by: CRATE', 'file: PATH' below crates/, and 'old:' and 'new:' pairs, each old text unique.
 set -euo pipefail
 top=$(cd "$(dirname "${BASH_SOURCE[0]}")/.." && pwd)

@@ -153,6 +153,19 @@ impl Author {
         self.with_data(&[12, verdict], bytes)
     }
 
+    pub fn wait(self, milliseconds: u8) -> Author {
+        self.record(&[13, milliseconds])
+    }
+
+    /// Waits as long as any write takes.
+    pub fn ready(self) -> Author {
+        self.wait(10)
+    }
+
+    pub fn poll(self) -> Author {
+        self.record(&[14])
+    }
+
     /// Reads one attempts counter.
     pub fn read_counter(self, selector: u8) -> Author {
         self.read_configuration((counter(selector) - CONFIGURATION) as u8, 1)

@@ -3,7 +3,7 @@
 use crate::access::{Configuration, Register, Stage};
 use crate::layout::{AAC, CARD, CONFIGURATION, CRYPTOGRAM, FUSES, PAGE, REGISTERS, ZONE};
 use crate::record::Record;
-use crate::volatile::{Authentication, Password, Volatile, Zone};
+use crate::volatile::{Authentication, Busy, Password, Volatile, Zone};
 
 /// Eight zones, the configuration, the fuse byte.
 pub type Card = [u8; CARD];
@@ -49,7 +49,8 @@ fn register(card: &Card, zone: Zone) -> Register {
     Register(card[REGISTERS + zone.number()])
 }
 
-/// Runs one command; `response` has the length that the record asks for.
+/// Runs one command that the card is not too busy for; `response` has the length that the record
+/// asks for.
 pub fn execute(card: &mut Card, state: &mut Volatile, record: &Record, response: &mut [u8]) {
     match *record {
         Record::PowerCycle => *state = Volatile::POWER_UP,
@@ -71,12 +72,13 @@ pub fn execute(card: &mut Card, state: &mut Volatile, record: &Record, response:
         }
         Record::ReadFuses => response[0] = card[FUSES],
         Record::WriteFuses => {
-            if state.active == Some(Password::SECURITY_CODE) {
+            if state.active == Some(Password::SECURITY_CODE) && card[FUSES] != 0 {
                 card[FUSES] = match card[FUSES] {
                     7 => 6,
                     6 => 4,
                     _ => 0,
                 };
+                state.busy = Busy::WRITING;
             }
         }
         Record::VerifyPassword { password, bytes } => verify_password(card, state, password, bytes),
@@ -84,6 +86,7 @@ pub fn execute(card: &mut Card, state: &mut Volatile, record: &Record, response:
             if card[AAC] != 0 {
                 card[AAC] = clear_lowest_one(card[AAC]);
                 state.authentication = Authentication::Begun;
+                state.busy = Busy::WRITING;
             }
         }
         Record::VerifyAuthentication { accepted, bytes } => {
@@ -95,8 +98,11 @@ pub fn execute(card: &mut Card, state: &mut Volatile, record: &Record, response:
                 } else {
                     state.authentication = Authentication::Idle;
                 }
+                state.busy = Busy::WRITING;
             }
         }
+        Record::Wait { milliseconds } => state.busy = state.busy.after(milliseconds),
+        Record::Poll => response[0] = u8::from(!state.busy.is_ready()),
     }
 }
 
@@ -115,7 +121,9 @@ fn read_zone(card: &Card, state: &Volatile, address: u8, response: &mut [u8]) {
     rolled_over.copy_from_slice(&zone[..rolled_over.len()]);
 }
 
-fn write_zone(card: &mut Card, state: &Volatile, address: u8, data: &[u8]) {
+fn write_zone(card: &mut Card, state: &mut Volatile, address: u8, data: &[u8]) {
+    // What may not be written takes its time too.
+    state.busy = Busy::WRITING;
     let register = register(card, state.zone);
     let stage = stage(card);
     if !register.may_write(stage, state) {
@@ -139,7 +147,8 @@ fn read_configuration(card: &Card, state: &Volatile, address: u8, response: &mut
     }
 }
 
-fn write_configuration(card: &mut Card, state: &Volatile, address: u8, data: &[u8]) {
+fn write_configuration(card: &mut Card, state: &mut Volatile, address: u8, data: &[u8]) {
+    state.busy = Busy::WRITING;
     let rights = Configuration::new(stage(card), state);
     let address = usize::from(address);
     let page = address / PAGE * PAGE;
@@ -156,6 +165,7 @@ fn verify_password(card: &mut Card, state: &mut Volatile, password: Password, by
     if card[at] == 0 {
         return;
     }
+    state.busy = Busy::WRITING;
     if card[at + 1..at + 4] == bytes {
         card[at] = 0xFF;
         state.active = Some(password);

@@ -15,40 +15,64 @@ fn marked() -> Author {
     })
 }
 
-/// Record `k` of a list that goes through the kinds in turn.
+/// Record `k` of a list that goes through the kinds in turn and waits for the card.
 fn kind_in_turn(author: Author, k: u16) -> Author {
-    let byte = (k / 12) as u8;
-    match k % 12 {
+    let byte = (k / 18) as u8;
+    match k % 18 {
         0 => author.reset(),
         1 => author.select(byte % ZONES as u8),
         2 => author.write(byte, &[byte; 16]),
-        3 => author.read(byte, 8),
-        4 => author.write_configuration(byte % 128, &[byte; 5]),
-        5 => author.read_configuration(byte % 121, 8),
-        6 => author.right(byte % 16),
-        7 => author.write_fuses(),
-        8 => author.read_fuses(),
-        9 => author.begin(),
-        10 => author.verdict(byte % 2, b"verdicts"),
-        _ => author.power(),
+        4 => author.read(byte, 8),
+        5 => author.write_configuration(byte % 128, &[byte; 5]),
+        7 => author.read_configuration(byte % 121, 8),
+        8 => author.right(byte % 16),
+        10 => author.write_fuses(),
+        12 => author.read_fuses(),
+        13 => author.begin(),
+        14 => author.poll(),
+        16 => author.verdict(byte % 2, b"verdicts"),
+        17 => author.power(),
+        _ => author.ready(),
     }
 }
 
-fn log_length(author: Author) -> usize {
-    session::check(&author.session()).expect("the session is sound").log_length
+/// Record `k` of a list in which the kinds meet a busy card in turn.
+fn busy_in_turn(author: Author, k: u16) -> Author {
+    let byte = (k / 15) as u8;
+    match k % 15 {
+        0 => author.power(),
+        1 => author.write(byte, &[byte; 16]),
+        2 => author.reset(),
+        3 => author.select(byte % ZONES as u8),
+        4 => author.read(byte, 8),
+        5 => author.write_configuration(byte % 128, &[byte; 5]),
+        6 => author.read_configuration(byte % 121, 8),
+        7 => author.right(byte % 16),
+        8 => author.write_fuses(),
+        9 => author.read_fuses(),
+        10 => author.begin(),
+        11 => author.verdict(byte % 2, b"verdicts"),
+        12 => author.write(!byte, &[!byte; 16]),
+        13 => author.poll(),
+        _ => author.wait(9),
+    }
 }
 
-/// As many records as a session may have, all kinds among them, with a log of the given length.
+fn log_space(author: Author) -> usize {
+    session::check(&author.session()).expect("the session is sound").log_space
+}
+
+/// As many records as a session may have, all kinds among them, that want this much log space.
 ///
-/// The list ends in as few zone reads as bring the log there, the last one not longer than needed.
-fn most_records(length: usize) -> Author {
+/// The list ends in as few zone reads as bring it there, the last one not longer than needed.
+fn most_records(in_turn: fn(Author, u16) -> Author, space: usize) -> Author {
     let ending = |reads: u16, last: usize| {
-        let first = (0..MOST_RECORDS - reads).fold(marked(), kind_in_turn);
+        let first = (0..MOST_RECORDS - 1 - reads).fold(marked(), in_turn).power();
         first.times(usize::from(reads) - 1, |a| a.read(0x80, 0)).read(0x80, last as u8)
     };
-    let enough = |reads: &u16| log_length(ending(*reads, ZONE)) >= length;
+    let enough = |reads: &u16| log_space(ending(*reads, ZONE)) >= space;
     let reads = (1..MOST_RECORDS).find(enough).expect("zone reads fill the log");
-    let over = log_length(ending(reads, ZONE)) - length;
+    let over = log_space(ending(reads, ZONE)) - space;
     ending(reads, ZONE - over)
 }
 
@@ -56,8 +80,9 @@ fn most_records(length: usize) -> Author {
 ///
 /// A response byte takes one byte of the log and gives three of the text. An entry's header takes
 /// three of the log and gives at most eight of the text: four digits, a space, the kind, the line's
-/// end. The last two lines have one length in every listing. So the text is longest when the log
-/// is full and has as few entries as can fill it: all but one read a whole zone.
+/// end. The last two lines have one length in every listing. What a busy card ignores takes its
+/// space and gives a header alone. So the text is longest when the log is full and has as few
+/// entries as can fill it: all but one read a whole zone.
 fn longest_listing() -> Author {
     let entries = LOG_SPACE - SHORTEST_LOG;
     let whole = ENTRY_HEADER + ZONE;
@@ -74,7 +99,8 @@ fn padded(author: Author, length: usize) -> Vec<u8> {
 /// Names and sessions.
 pub fn all() -> Vec<(&'static str, Vec<u8>)> {
     let least = Author::new(7).session();
-    let full = most_records(LOG_SPACE);
+    let full = most_records(kind_in_turn, LOG_SPACE);
+    let busy = |space| padded(most_records(busy_in_turn, space), LONGEST_SESSION);
     vec![
         ("empty", Vec::new()),
         ("below-least", least[1..].to_vec()),
@@ -82,7 +108,9 @@ pub fn all() -> Vec<(&'static str, Vec<u8>)> {
         ("greatest", padded(full.clone(), LONGEST_SESSION)),
         ("byte-more", padded(full.clone(), LONGEST_SESSION + 1)),
         ("record-more", padded(full.power(), LONGEST_SESSION)),
-        ("log-byte-more", padded(most_records(LOG_SPACE + 1), LONGEST_SESSION)),
+        ("log-byte-more", padded(most_records(kind_in_turn, LOG_SPACE + 1), LONGEST_SESSION)),
+        ("busy-greatest", busy(LOG_SPACE)),
+        ("busy-log-byte-more", busy(LOG_SPACE + 1)),
         ("longest-listing", longest_listing().session()),
     ]
 }

@@ -12,7 +12,7 @@ pub fn at88sc1608_run(session: &[u8], log: &mut [u8]) -> u64 {
     pack(session::run(session, log).map(|length| (length as u64) << 8))
 }
 
-/// Refusal + 2^8 · response length + 2^24 · tries left.
+/// Refusal + 2^8 · response length + 2^24 · tries left + 2^32 · the kind as it is answered.
 pub fn at88sc1608_command(
     card: &mut [u8],
     state: &mut [u8],
@@ -20,7 +20,9 @@ pub fn at88sc1608_command(
     response: &mut [u8],
 ) -> u64 {
     let reply = command::command(card, state, record, response);
-    pack(reply.map(|reply| (reply.length as u64) << 8 | u64::from(reply.tries) << 24))
+    pack(reply.map(|reply| {
+        (reply.length as u64) << 8 | u64::from(reply.tries) << 24 | u64::from(reply.kind) << 32
+    }))
 }
 
 /// Refusal + 2^8 · response length + 2^40 · its offset in the log.

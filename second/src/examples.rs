@@ -13,31 +13,45 @@ fn personalised() -> Author {
             b"A card is written, personalised and sealed step by step; zone 2 then wants set 3.\n",
         )
         .write_configuration(0x12, &[0b0010_1111])
+        .ready()
         .select(2)
         .write(0x00, b"account 00001234")
+        .ready()
         .read_fuses()
         .right(7)
+        .ready()
         .write_fuses()
+        .ready()
         .read_fuses()
         .write_configuration(0x0C, b"MFR1")
+        .ready()
         .write_fuses()
+        .ready()
         .read_fuses()
         .write_configuration(0x21, b"ID00001")
+        .ready()
         .write_configuration(0x59, &[0x11, 0x22, 0x33])
+        .ready()
         .write_fuses()
+        .ready()
         .read_fuses()
         .write_fuses()
         .power()
         .select(2)
         .read(0x00, 16)
         .verify(3, password(3))
+        .ready()
         .verify(3, [0x11, 0x22, 0x33])
+        .ready()
         .read(0x00, 16)
         .write(0x08, b"00005678")
+        .ready()
         .read(0x00, 16)
         .right(11)
+        .ready()
         .read(0x08, 8)
         .write(0x08, b"99999999")
+        .ready()
         .read(0x08, 8)
         .read_configuration(0x20, 8)
         .read_configuration(0x30, 8)
@@ -49,8 +63,9 @@ fn locked() -> Author {
         .put_register(0, 0b1011_0111)
         .put_zone(0, 0, b"guarded")
         .right(13)
+        .ready()
         .read(0, 7)
-        .times(8, |a| a.wrong(13).read_counter(13))
+        .times(8, |a| a.wrong(13).ready().read_counter(13))
         .right(13)
         .read_counter(13)
         .read(0, 7)
@@ -63,12 +78,16 @@ fn authentication() -> Author {
         .put_zone(0, 0, b"guarded")
         .read(0, 7)
         .begin()
+        .ready()
         .read_configuration(0x20, 1)
         .verdict(0, b"badcrypt")
+        .ready()
         .read(0, 7)
         .begin()
+        .ready()
         .read_configuration(0x20, 1)
         .verdict(1, b"newcrypt")
+        .ready()
         .read(0, 7)
         .read_configuration(0x20, 1)
         .read_configuration(0x28, 8)
@@ -79,7 +98,7 @@ fn authentication() -> Author {
 fn closed() -> Author {
     let reads =
         |a: Author| a.power().read(0, 4).select(1).read(0xFE, 4).read_configuration(0x58, 8);
-    let blown = |a: Author| a.right(7).write_fuses();
+    let blown = |a: Author| a.right(7).ready().write_fuses();
     let author = Author::new(6)
         .text(b"Closed zones show F: 06, then 04, then 00. Closed configuration bytes show 00.\n")
         .put_register(0, 0b1010_1111)
@@ -87,18 +106,37 @@ fn closed() -> Author {
         .put_register(1, 0b1101_1111)
         .put_zone(1, 0, b"auth");
     let sealed = reads(blown(reads(blown(reads(author)))));
-    sealed.right(11).read(0, 4).select(0).read(0, 4)
+    sealed.right(11).ready().read(0, 4).select(0).read(0, 4)
 }
 
 fn tries() -> Author {
     Author::new(0)
         .text(b"Tries left: 7 for write password 1, 8 for 2, 0 for read password 5, 6 for AAC.\n")
         .wrong(1)
-        .times(3, |a| a.wrong(2))
+        .ready()
+        .times(3, |a| a.wrong(2).ready())
         .right(2)
-        .times(8, |a| a.wrong(13))
+        .ready()
+        .times(8, |a| a.wrong(13).ready())
         .right(13)
-        .times(2, |a| a.begin().verdict(0, b"badcrypt"))
+        .times(2, |a| a.begin().ready().verdict(0, b"badcrypt").ready())
+}
+
+fn busy() -> Author {
+    Author::new(7)
+        .text(b"A write is polled until the card is ready; a read that comes too soon shows 84.\n")
+        .poll()
+        .write(0x00, b"first")
+        .poll()
+        .times(3, |a| a.wait(4).poll())
+        .read(0x00, 5)
+        .write(0x00, b"second")
+        .read(0x00, 6)
+        .ready()
+        .read(0x00, 6)
+        .write(0x00, b"third")
+        .power()
+        .read(0x00, 5)
 }
 
 fn refused() -> Author {
@@ -116,15 +154,19 @@ fn wrap() -> Author {
         .put_register(2, 0xFE)
         .put_zone(2, 0x20, &[0xF0])
         .write(0x1E, &[1, 2, 3, 4])
+        .ready()
         .read(0x10, 16)
         .write(0xFE, b"end")
+        .ready()
         .read(0xF0, 16)
         .write(0x00, b"begin")
+        .ready()
         .read(0xFE, 8)
         .select(1)
         .read(0x00, 4)
         .select(2)
         .write(0x20, &[0x3C])
+        .ready()
         .read(0x20, 1)
 }
 
@@ -138,6 +180,7 @@ pub fn all() -> Vec<(&'static str, Vec<u8>)> {
         ("authentication", authentication()),
         ("closed", closed()),
         ("tries", tries()),
+        ("busy", busy()),
         ("refused", refused()),
         ("wrap", wrap()),
     ]

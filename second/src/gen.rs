@@ -1,13 +1,14 @@
 //! The seeded generator: cards, states, records, sessions and logs, sound ones and damaged ones.
 //!
 //! Records are chosen with the current card and state in view, so that right passwords are right
-//! and locked doors are opened often enough to reach deep states.
+//! and locked doors are opened often enough to reach deep states. For stretches of records the host
+//! has the patience to wait for a busy card, or has little of it.
 
 use crate::author::{counter, trailer};
 use crate::command::command;
 use crate::layout::{
     AAC, CARD, CONFIGURATION, FUSES, LONGEST_SESSION, MOST_RECORDS, REGISTERS, SHORTEST_LOG,
-    SHORTEST_SESSION, TRAILER, ZONE, ZONES,
+    SHORTEST_SESSION, STATE, TRAILER, ZONE, ZONES,
 };
 
 /// Splitmix64.
@@ -83,28 +84,68 @@ pub fn card(rng: &mut Rng) -> Vec<u8> {
     card
 }
 
+/// What keeps the zone closed in which two sealed cards differ.
+#[derive(Clone, Copy, Debug)]
+pub enum Closed {
+    Password,
+    Authentication,
+}
+
+/// Two sealed cards that differ only in what is closed: zone 2, and the passwords of its set, 5.
+pub fn sealed_pair(rng: &mut Rng, closed: Closed) -> [Vec<u8>; 2] {
+    let mut card = card(rng);
+    card[FUSES] = 0;
+    let any = rng.byte() & 0xE3 | 5 << 2;
+    let mut other = card.clone();
+    other[2 * ZONE..3 * ZONE].copy_from_slice(&rng.bytes(ZONE));
+    let register = match closed {
+        Closed::Authentication => any & !0x20,
+        Closed::Password => {
+            for at in [counter(5) + 1, counter(13) + 1] {
+                other[at..at + 3].copy_from_slice(&rng.bytes(3));
+            }
+            any & !0x40
+        }
+    };
+    [card, other].map(|mut card| {
+        card[REGISTERS + 2] = register;
+        card
+    })
+}
+
+/// Whether a record might open that zone: it presents one of the passwords, or accepts.
+pub fn opens(closed: Closed, record: &[u8]) -> bool {
+    match closed {
+        Closed::Password => matches!(record, [10, 5 | 13, ..]),
+        Closed::Authentication => matches!(record, [12, 1, ..]),
+    }
+}
+
 /// A state that stands for something.
-pub fn state(rng: &mut Rng) -> [u8; 4] {
+pub fn state(rng: &mut Rng) -> [u8; STATE] {
     let zone = rng.byte() & 7;
     let authentication = rng.pick(&[0, 1, 2, 2]);
+    let any = rng.byte() % 11;
+    let busy = rng.pick(&[0, 0, 0, 1, 10, any]);
     if rng.chance(20) {
-        [zone, 0, 0, authentication]
+        [zone, 0, 0, authentication, busy]
     } else {
         let any = rng.byte() & 15;
-        [zone, 1, rng.pick(&[7, any, any]), authentication]
+        [zone, 1, rng.pick(&[7, any, any]), authentication, busy]
     }
 }
 
 /// A state that stands for nothing.
 pub fn damaged_state(rng: &mut Rng) -> Vec<u8> {
     let mut state = state(rng).to_vec();
-    match rng.below(6) {
+    match rng.below(7) {
         0 => state[0] = rng.pick(&[8, 16, 128, 255]),
         1 => state[1] = rng.pick(&[2, 3, 128, 255]),
         2 => (state[1], state[2]) = (0, rng.pick(&[1, 7, 15, 16, 255])),
         3 => (state[1], state[2]) = (1, rng.pick(&[16, 23, 32, 128, 255])),
         4 => state[3] = rng.pick(&[3, 4, 128, 255]),
-        _ => state.resize(rng.pick(&[0, 1, 3, 5, 8]), 0),
+        5 => state[4] = rng.pick(&[11, 12, 20, 128, 255]),
+        _ => state.resize(rng.pick(&[0, 1, 4, 6, 8]), 0),
     }
     state
 }
@@ -192,6 +233,7 @@ fn of_kind(rng: &mut Rng, card: &[u8], state: &[u8], kind: u8) -> Vec<u8> {
             verify(rng, card, selector)
         }
         12 => [&[12, rng.byte() & 1][..], &rng.bytes(8)].concat(),
+        13 => vec![13, 1 + rng.byte() % 20],
         kind => vec![kind],
     }
 }
@@ -202,8 +244,44 @@ fn write_data(rng: &mut Rng) -> Vec<u8> {
     rng.bytes(count)
 }
 
-/// A sound record, chosen for this card and state.
-pub fn record(rng: &mut Rng, card: &[u8], state: &[u8]) -> Vec<u8> {
+/// What a host sends while it lets a busy card write: mostly a wait, most often long enough.
+fn pastime(rng: &mut Rng, busy: u8) -> Vec<u8> {
+    let part = 1 + rng.byte() % busy;
+    let any = 1 + rng.byte() % 255;
+    match rng.below(40) {
+        0 => vec![1],
+        1..=4 => vec![14],
+        _ => vec![13, rng.pick(&[10, 10, 10, busy, busy, 11, any, part])],
+    }
+}
+
+/// How many times in a hundred a host minds that the card is busy.
+pub fn patience(rng: &mut Rng) -> usize {
+    rng.pick(&[100, 100, 90, 50, 10])
+}
+
+/// A sound record, chosen for this card and state by a host of this patience.
+pub fn record(rng: &mut Rng, card: &[u8], state: &[u8], patience: usize) -> Vec<u8> {
+    if state[4] > 0 && rng.chance(patience) {
+        return pastime(rng, state[4]);
+    }
+    if rng.chance(4) {
+        let kind = rng.pick(&[13, 14]);
+        return of_kind(rng, card, state, kind);
+    }
+    of_first_twelve(rng, card, state)
+}
+
+/// A sound record of kinds 1 to 12, chosen for this card and state; power ends each busy time.
+pub fn power_cycled(rng: &mut Rng, card: &[u8], state: &[u8]) -> Vec<u8> {
+    if state[4] > 0 {
+        vec![1]
+    } else {
+        of_first_twelve(rng, card, state)
+    }
+}
+
+fn of_first_twelve(rng: &mut Rng, card: &[u8], state: &[u8]) -> Vec<u8> {
     if rng.chance(35) {
         return helpful(rng, card, state);
     }
@@ -218,7 +296,7 @@ pub fn record(rng: &mut Rng, card: &[u8], state: &[u8]) -> Vec<u8> {
 pub fn damaged_record(rng: &mut Rng, record: &[u8]) -> Vec<u8> {
     let mut record = record.to_vec();
     match rng.below(6) {
-        0 => record[0] = rng.pick(&[0, 13, 14, 0x80, 0xFF]),
+        0 => record[0] = rng.pick(&[0, 15, 16, 0x80, 0x84, 0x8E, 0xFF]),
         1 => record.truncate(rng.below(record.len())),
         2 => {
             let more = 1 + rng.below(3);
@@ -230,16 +308,18 @@ pub fn damaged_record(rng: &mut Rng, record: &[u8]) -> Vec<u8> {
         }
         4 => {
             #[rustfmt::skip]
-            let bad: [&[u8]; 12] = [
+            let bad: [&[u8]; 13] = [
                 &[3, 8], &[5, 0, 0], &[5, 9, 17, 1], &[6, 0x80, 1], &[6, 0x7F, 2], &[6, 0, 0],
                 &[6, 1, 0xFF], &[7, 0x80, 1, 1], &[7, 0, 0], &[7, 0, 17], &[10, 16], &[12, 2],
+                &[13, 0],
             ];
             record = rng.pick(&bad).to_vec();
         }
         _ => {
             #[rustfmt::skip]
-            let cut: [&[u8]; 8] = [
+            let cut: [&[u8]; 9] = [
                 &[3], &[4, 1], &[6, 0xFF], &[7, 0xFF], &[5, 0, 2, 1], &[10, 1, 1, 1], &[12, 1], &[],
+                &[13],
             ];
             record = rng.pick(&cut).to_vec();
         }
@@ -247,17 +327,32 @@ pub fn damaged_record(rng: &mut Rng, record: &[u8]) -> Vec<u8> {
     record
 }
 
-/// A sound session with about this many records.
+/// A sound session with about this many records, sent with changing patience.
 pub fn session(rng: &mut Rng, records: usize) -> Vec<u8> {
+    let mut now = patience(rng);
+    session_of(rng, records, |rng, card, state| {
+        if rng.chance(3) {
+            now = patience(rng);
+        }
+        record(rng, card, state, now)
+    })
+}
+
+/// The same with records that are chosen, one after the other, by `next`.
+pub fn session_of(
+    rng: &mut Rng,
+    records: usize,
+    mut next: impl FnMut(&mut Rng, &[u8], &[u8]) -> Vec<u8>,
+) -> Vec<u8> {
     let mut session = card(rng);
     let mut card = session.clone();
     let text = rng.pick(&[0, 0, 1, 7, 40]);
     session.extend(rng.bytes(text));
     let start = session.len();
-    let mut state = [0; 4];
+    let mut state = [0; STATE];
     let mut count = 0;
     while count < records {
-        let record = record(rng, &card, &state);
+        let record = next(rng, &card, &state);
         if session.len() + record.len() + TRAILER > LONGEST_SESSION {
             break;
         }
@@ -331,7 +426,7 @@ fn damage(rng: &mut Rng, bytes: &mut Vec<u8>) {
 pub fn damaged_log(rng: &mut Rng, log: &[u8]) -> Vec<u8> {
     let mut bytes = log.to_vec();
     let card_at = bytes.len() - SHORTEST_LOG;
-    match rng.below(7) {
+    match rng.below(8) {
         0 => bytes.truncate(rng.below(bytes.len())),
         1 => bytes.extend(rng.bytes(1)),
         2 => bytes[card_at + FUSES] = rng.byte(),
@@ -347,6 +442,7 @@ pub fn damaged_log(rng: &mut Rng, log: &[u8]) -> Vec<u8> {
         5 if card_at > 0 => {
             bytes.remove(rng.below(card_at));
         }
+        6 if card_at > 0 => bytes[rng.below(card_at)] ^= 0x80,
         _ if card_at > 0 => {
             let at = rng.below(card_at);
             bytes[at] = rng.byte();

@@ -17,6 +17,9 @@ pub const FUSES: usize = CONFIGURATION + 0x80;
 /// The length of a card.
 pub const CARD: usize = FUSES + 1;
 
+/// The length of a volatile state as bytes.
+pub const STATE: usize = 5;
+
 /// What ends a session, and a log: a place, a count, a mark.
 pub const TRAILER: usize = 8;
 

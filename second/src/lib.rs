@@ -5,6 +5,7 @@
 
 pub mod access;
 pub mod author;
+pub mod busy;
 pub mod card;
 pub mod command;
 pub mod edges;

@@ -14,6 +14,26 @@ pub fn write_trailer(trailer: &mut [u8], card_at: usize, count: u16) {
     trailer[6..].copy_from_slice(&MARK);
 }
 
+/// The least and the greatest response length of each kind of entry; none fits an unknown kind.
+const LENGTHS: [(u16, u16); 256] = {
+    let mut lengths = [(1, 0); 256];
+    let mut kind = 0;
+    while kind < 256 {
+        lengths[kind] = match kind {
+            1 | 3 | 5 | 7 | 9..=13 => (0, 0),
+            2 => (4, 4),
+            4 => (1, 256),
+            6 => (1, 128),
+            8 | 14 => (1, 1),
+            // Kinds 2 to 12, met by a busy card.
+            130..=140 => (0, 0),
+            _ => (1, 0),
+        };
+        kind += 1;
+    }
+    lengths
+};
+
 /// An entry's kind and where its response lies.
 pub struct Entry {
     pub kind: u8,
@@ -29,23 +49,16 @@ pub struct Entries<'a> {
 
 impl Entries<'_> {
     fn entry(&mut self) -> Option<Entry> {
-        let header = self.entries[self.at..].first_chunk::<ENTRY_HEADER>()?;
-        let length = usize::from(u16::from_le_bytes([header[1], header[2]]));
-        let fits = match header[0] {
-            2 => length == 4,
-            4 => (1..=256).contains(&length),
-            6 => (1..=128).contains(&length),
-            8 => length == 1,
-            1 | 3 | 5 | 7 | 9..=12 => length == 0,
-            _ => false,
-        };
+        let &[kind, low, high] = self.entries[self.at..].first_chunk::<ENTRY_HEADER>()?;
+        let length = u16::from_le_bytes([low, high]);
+        let (least, most) = LENGTHS[usize::from(kind)];
         let from = self.at + ENTRY_HEADER;
-        let to = from + length;
-        if !fits || to > self.entries.len() {
+        let to = from + usize::from(length);
+        if !(least..=most).contains(&length) || to > self.entries.len() {
             return None;
         }
         self.at = to;
-        Some(Entry { kind: header[0], response: from..to })
+        Some(Entry { kind, response: from..to })
     }
 }
 

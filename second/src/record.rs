@@ -1,4 +1,4 @@
-//! The twelve kinds of records, and reading them from bytes.
+//! The fourteen kinds of records, and reading them from bytes.
 
 use crate::layout::TRAILER;
 use crate::refusal::Refusal;
@@ -18,6 +18,8 @@ pub enum Record<'a> {
     VerifyPassword { password: Password, bytes: [u8; 3] },
     BeginAuthentication,
     VerifyAuthentication { accepted: bool, bytes: [u8; 8] },
+    Wait { milliseconds: u8 },
+    Poll,
 }
 
 impl Record<'_> {
@@ -35,14 +37,17 @@ impl Record<'_> {
             Record::VerifyPassword { .. } => 10,
             Record::BeginAuthentication => 11,
             Record::VerifyAuthentication { .. } => 12,
+            Record::Wait { .. } => 13,
+            Record::Poll => 14,
         }
     }
 
+    /// The length of the response, if the record is answered in full.
     pub fn response_length(&self) -> usize {
         match *self {
             Record::Reset => 4,
             Record::ReadZone { count, .. } | Record::ReadConfiguration { count, .. } => count,
-            Record::ReadFuses => 1,
+            Record::ReadFuses | Record::Poll => 1,
             _ => 0,
         }
     }
@@ -120,6 +125,14 @@ pub fn decode(bytes: &[u8]) -> Result<(Record<'_>, usize), Refusal> {
             let bytes = take(&mut rest)?;
             Record::VerifyAuthentication { accepted, bytes }
         }
+        13 => {
+            let [milliseconds] = take(&mut rest)?;
+            if milliseconds == 0 {
+                return Err(Refusal::Field);
+            }
+            Record::Wait { milliseconds }
+        }
+        14 => Record::Poll,
         _ => return Err(Refusal::Kind),
     };
     Ok((record, bytes.len() - rest.len()))

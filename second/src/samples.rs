@@ -1,12 +1,13 @@
 //! The sample sessions: every kind, every refusal a session can get, every fuse stage, every rule
-//! of access, in a fixed order.
+//! of access, busy cards, in a fixed order.
 
 use crate::author::{counter, fresh_card, password, trailer, Author};
 use crate::examples;
 use crate::layout::{
-    CARD, CONFIGURATION, ENTRY_HEADER, LOG_SPACE, LONGEST_SESSION, MOST_RECORDS, SHORTEST_LOG,
-    SHORTEST_SESSION, ZONE,
+    CARD, CONFIGURATION, ENTRY_HEADER, LOG_SPACE, LONGEST_SESSION, MOST_RECORDS, SHORTEST_SESSION,
+    ZONE,
 };
+use crate::session;
 
 const STAGES: [u8; 4] = [7, 6, 4, 0];
 
@@ -33,17 +34,26 @@ fn registers(fuses: u8) -> Author {
         );
     }
     for zone in 0..8 {
-        author = author.select(zone).read(0, 4).write(0, &[0x3C]).read(0, 4);
+        author = author.select(zone).read(0, 4).write(0, &[0x3C]).ready().read(0, 4);
         for selector in [zone, zone + 8, 7] {
-            author =
-                author.right(selector).read(0, 4).write(1, &[0x3C + selector, 0x55]).read(0, 4);
+            author = author
+                .right(selector)
+                .ready()
+                .read(0, 4)
+                .write(1, &[0x3C + selector, 0x55])
+                .ready()
+                .read(0, 4);
         }
         author = author
             .begin()
+            .ready()
             .verdict(1, b"granted!")
+            .ready()
             .read(0, 4)
             .right(zone)
+            .ready()
             .write(2, &[0x99, 0x66])
+            .ready()
             .read(0, 4)
             .reset();
     }
@@ -67,7 +77,7 @@ fn closed(fuses: u8) -> Author {
             .read_configuration(0x7D, 3)
     };
     // Zone 0 opens to write password 7, and zone 7 to all.
-    let blown = reads(author).right(7).write_fuses();
+    let blown = reads(author).right(7).ready().write_fuses().ready();
     reads(reads(blown).reset())
 }
 
@@ -75,9 +85,9 @@ fn closed(fuses: u8) -> Author {
 fn areas(fuses: u8) -> Author {
     let mut author = Author::new(fuses).read_configuration(0, 128);
     for selector in [6, 10, 7, 15] {
-        author = author.right(selector).read_configuration(0, 128);
+        author = author.right(selector).ready().read_configuration(0, 128);
         for page in 0..8 {
-            author = author.write_configuration(16 * page + 10, &[selector; 16]);
+            author = author.write_configuration(16 * page + 10, &[selector; 16]).ready();
         }
         author = author.read_configuration(0, 128).power();
     }
@@ -94,13 +104,16 @@ fn shared_set(fuses: u8) -> Author {
             )
         })
         .right(12)
+        .ready()
         .each_zone(|a, zone| a.select(zone).read(0xFD, 4))
         .right(4)
+        .ready()
         .each_zone(|a, zone| {
-            let a = a.select(zone).write(0xFF, &[zone, zone + 1]);
+            let a = a.select(zone).write(0xFF, &[zone, zone + 1]).ready();
             a.read(0xFD, 4)
         })
         .right(3)
+        .ready()
         .read(0xFD, 4)
 }
 
@@ -112,22 +125,31 @@ fn counters(selector: u8) -> Author {
     for value in values {
         author = author
             .write_configuration(address, &[value])
+            .ready()
             .wrong(selector)
+            .ready()
             .read_configuration(address, 4)
             .right(selector)
+            .ready()
             .read_configuration(address, 4);
     }
     author
 }
 
 fn aac() -> Author {
-    [0xFF, 0xF0, 0x80, 0xA5, 0x01, 0x00].into_iter().fold(Author::new(6).right(7), |a, value| {
+    let author = Author::new(6).right(7).ready();
+    [0xFF, 0xF0, 0x80, 0xA5, 0x01, 0x00].into_iter().fold(author, |a, value| {
         a.write_configuration(0x20, &[value])
+            .ready()
             .begin()
+            .ready()
             .read_configuration(0x20, 16)
             .verdict(0, b"refused!")
+            .ready()
             .begin()
+            .ready()
             .verdict(1, b"accepted")
+            .ready()
             .verdict(1, b"not now.")
             .read_configuration(0x20, 16)
     })
@@ -145,17 +167,17 @@ fn tries(left: fn(u8) -> usize) -> Author {
         author = match left {
             // $A5 has four already.
             4 => author,
-            8 => author.right(selector),
-            _ => author.wrong(selector),
+            8 => author.right(selector).ready(),
+            _ => author.wrong(selector).ready(),
         };
     }
     author.begin()
 }
 
 fn lost_authentication() -> Author {
-    let granted = |a: Author| a.begin().verdict(1, b"12345678").read(0, 2);
+    let granted = |a: Author| a.begin().ready().verdict(1, b"12345678").ready().read(0, 2);
     let author = Author::new(0).put_register(0, register(ATE, 0)).put_zone(0, 0, b"ok");
-    granted(granted(granted(author).begin().read(0, 2)).reset().read(0, 2))
+    granted(granted(granted(author).begin().ready().read(0, 2)).reset().read(0, 2))
         .power()
         .read(0, 2)
         .verdict(1, b"too late")
@@ -167,18 +189,26 @@ fn still_granted() -> Author {
     Author::new(6)
         .put_register(0, register(ATE, 7))
         .begin()
+        .ready()
         .verdict(1, b"granted.")
+        .ready()
         .right(7)
+        .ready()
         .write_configuration(0x20, &[0])
+        .ready()
         .begin()
         .read(0, 1)
         .write(0, &[0x42])
+        .ready()
         .read(0, 1)
         .write_configuration(0x20, &[0x40])
+        .ready()
         .begin()
+        .ready()
         .read(0, 1)
         .begin()
         .verdict(1, b"again...")
+        .ready()
         .read(0, 1)
 }
 
@@ -188,20 +218,32 @@ fn blown_on_the_way() -> Author {
         .write_fuses()
         .read_fuses()
         .write(0, &[1])
+        .ready()
         .right(15)
+        .ready()
         .write_fuses()
         .read_fuses()
         .right(7)
+        .ready()
         .write_fuses()
+        .ready()
         .write(0, &[2])
+        .ready()
         .write_configuration(0x0E, &[3, 3, 3])
+        .ready()
         .write_fuses()
+        .ready()
         .write_configuration(0x0E, &[4, 4, 4])
+        .ready()
         .write_configuration(0x1E, &[4, 4, 4])
+        .ready()
         .read_configuration(0, 128)
         .write_fuses()
+        .ready()
         .write_configuration(0x1E, &[5, 5, 5])
+        .ready()
         .write_configuration(0x78, &[6; 16])
+        .ready()
         .read_configuration(0, 128)
         .write_fuses()
         .read(0, 1)
@@ -215,13 +257,14 @@ fn nearly_right() -> Author {
         bytes[place] ^= 1;
         bytes
     };
-    let author = Author::new(6).verify(9, near(0)).verify(9, near(1));
-    author
-        .verify(9, near(2))
-        .verify(9, password(1))
+    let tried = [near(0), near(1), near(2), password(1)];
+    tried
+        .into_iter()
+        .fold(Author::new(6), |author, bytes| author.verify(9, bytes).ready())
         .read_counter(9)
         .read_counter(1)
         .right(9)
+        .ready()
         .read_counter(9)
 }
 
@@ -236,7 +279,7 @@ fn traded_bytes() -> Author {
         let at = counter(selector) + 1 - CONFIGURATION;
         let author = author.put_configuration(at, &right);
         let present = |author: Author, &bytes: &[u8; 3]| {
-            author.verify(selector, bytes).read_counter(selector)
+            author.verify(selector, bytes).ready().read_counter(selector)
         };
         present(wrong.iter().fold(author, present), &right)
     })
@@ -250,14 +293,17 @@ fn kept_and_lost() -> Author {
         .put_aac(0x80)
         .select(3)
         .begin()
+        .ready()
         .read(0xFF, 2)
         .verdict(1, b"granted.")
+        .ready()
         .read(0xFF, 2)
         .select(2)
         .select(3)
         .read(0xFF, 2)
         .write_configuration(0x20, &[0])
-        .times(9, |a| a.begin().read(0xFF, 2).read_configuration(0x20, 1))
+        .ready()
+        .times(9, |a| a.begin().ready().read(0xFF, 2).read_configuration(0x20, 1))
         .select(6)
         .reset()
         .read(0xFE, 3)
@@ -271,17 +317,127 @@ fn wrong_keeps_none() -> Author {
         .put_zone(0, 0, b"data")
         .put_counter(6, 0)
         .right(5)
+        .ready()
         .read(0, 4)
         .wrong(13)
+        .ready()
         .read(0, 4)
         .right(5)
+        .ready()
         .right(6)
         .read(0, 4)
         .write(0, b"DATA")
+        .ready()
         .read(0, 4)
         .right(13)
+        .ready()
         .write(0, b"nope")
+        .ready()
         .read(0, 4)
+}
+
+/// Records that make the card busy and records that do not, each polled at once.
+fn busy_after() -> Author {
+    type Step = fn(Author) -> Author;
+    let author = Author::new(4).put_register(0, register(MDF, 0)).put_counter(5, 0);
+    let plain: [Step; 6] = [
+        Author::reset,
+        |a| a.select(0),
+        |a| a.read(0, 1),
+        |a| a.read_configuration(0x20, 1),
+        Author::read_fuses,
+        Author::power,
+    ];
+    let writes: [Step; 4] = [
+        |a| a.write(0, b"forbidden"),
+        |a| a.write_configuration(0x00, b"forbidden"),
+        |a| a.write_configuration(0x38, b"allowed"),
+        Author::write_fuses,
+    ];
+    // Write password 5 is locked.
+    let passwords: [Step; 7] = [
+        |a| a.right(5),
+        |a| a.wrong(5),
+        |a| a.wrong(3),
+        |a| a.right(3),
+        Author::write_fuses,
+        |a| a.right(15),
+        Author::write_fuses,
+    ];
+    let verdicts: [Step; 8] = [
+        |a| a.verdict(0, b"too soon"),
+        |a| a.verdict(1, b"too soon"),
+        Author::begin,
+        |a| a.verdict(0, b"rejected"),
+        |a| a.verdict(1, b"too late"),
+        Author::begin,
+        |a| a.verdict(1, b"accepted"),
+        |a| a.verdict(0, b"too late"),
+    ];
+    // AAC is set to $00, and the last fuse blown.
+    let last: [Step; 7] = [
+        |a| a.right(7),
+        |a| a.write_configuration(0x20, &[0]),
+        Author::begin,
+        Author::write_fuses,
+        Author::write_fuses,
+        |a| a.select(1),
+        |a| a.write(0, b"allowed"),
+    ];
+    let steps = [&plain[..], &writes, &passwords, &verdicts, &last].concat();
+    steps.into_iter().fold(author, |author, step| step(author).poll().ready())
+}
+
+/// Every kind meets a busy card; what is read and done afterwards shows that nothing came of it.
+fn met_while_busy() -> Author {
+    Author::new(7)
+        .right(7)
+        .ready()
+        .begin()
+        .ready()
+        .select(1)
+        .write(0, b"stored")
+        .reset()
+        .select(5)
+        .read(0, 6)
+        .write(0, b"ignored")
+        .read_configuration(0x00, 4)
+        .write_configuration(0x38, b"ignored")
+        .read_fuses()
+        .write_fuses()
+        .wrong(7)
+        .begin()
+        .verdict(0, b"ignored.")
+        .poll()
+        .wait(9)
+        .write(0, b"ignored")
+        .poll()
+        .wait(1)
+        .poll()
+        .read(0, 8)
+        .read_configuration(0x20, 1)
+        .read_configuration(0x38, 8)
+        .read_counter(7)
+        .write_fuses()
+        .read_fuses()
+        .ready()
+        .read_fuses()
+        .verdict(1, b"verdicts")
+        .ready()
+        .read_configuration(0x28, 8)
+        .write(0, b"last")
+        .power()
+        .poll()
+        .select(1)
+        .read(0, 8)
+        .write(0, b"kept out")
+}
+
+/// Waits shorter than a write, as long, and longer; the last write is polled every millisecond.
+fn waits() -> Author {
+    let waited = |a: Author, n| a.write(n, &[n]).wait(n).poll().read(n, 1).ready().poll();
+    let author = [1, 2, 9, 10, 11, 255].into_iter().fold(Author::new(7).wait(255).poll(), waited);
+    author.write(0, &[0]).poll().times(11, |a| a.wait(1).poll()).read(0, 1)
 }
 
 /// A session as its parts say, however wrong they are.
@@ -314,13 +470,16 @@ fn accepted() -> Vec<Author> {
         traded_bytes(),
         kept_and_lost(),
         still_granted(),
+        busy_after(),
+        met_while_busy(),
+        waits(),
         Author::new(4).times(MOST_RECORDS.into(), Author::power),
         Author::new(0).reset().select(7).reset().read(0, 0),
         Author::new(0).read(0xFF, 0).read(0xFE, 3).read(0, 1),
-        Author::new(7).write(0x1E, &[1, 2, 3, 4]).read(0x0F, 18),
-        Author::new(7).write(0x07, &[7; 16]).read(0, 0x20),
+        Author::new(7).write(0x1E, &[1, 2, 3, 4]).ready().read(0x0F, 18),
+        Author::new(7).write(0x07, &[7; 16]).ready().read(0, 0x20),
         Author::new(6).read_configuration(0x7F, 1).write(0, &[9]),
-        Author::new(0).right(7).write_configuration(0x7F, &[1, 2]),
+        Author::new(0).right(7).ready().write_configuration(0x7F, &[1, 2]),
     ]);
     all
 }
@@ -341,7 +500,7 @@ fn refused() -> Vec<Vec<u8>> {
         raw(5, &[8], CARD, 1),
         raw(8, &[8], CARD, 1),
         one(&[0]),
-        one(&[13]),
+        one(&[15]),
         one(&[3, 8]),
         one(&[3, 0x11]),
         one(&[5, 0, 0]),
@@ -353,34 +512,42 @@ fn refused() -> Vec<Vec<u8>> {
         one(&[7, 0x80, 1]),
         one(&[10, 16]),
         one(&[12, 2]),
+        one(&[13, 0]),
         raw(7, &[], CARD, 1),
         one(&[3]),
         one(&[6, 0xFF]),
         one(&[5, 0, 2, 1]),
         one(&[10, 0, 1, 2]),
         one(&[12, 1, 1, 2, 3, 4, 5, 6, 7]),
+        one(&[13]),
         raw(7, &[8, 8], CARD, 1),
         raw(7, &[8], CARD, 0),
         Author::new(7).times(255, |a| a.read(0, 0)).session(),
     ]
 }
 
-/// A session whose log has the given length: whole zones are read, then what is left.
-fn logging(length: usize) -> Vec<u8> {
-    let entries = length - SHORTEST_LOG;
+/// These records, then reads of whole zones and of what is left, so that the session wants this
+/// much log space.
+fn logging(author: Author, space: usize) -> Vec<u8> {
+    let begun = session::check(&author.clone().session()).expect("the session is sound");
+    let entries = space - begun.log_space;
     let whole = ENTRY_HEADER + ZONE;
     let last = entries % whole - ENTRY_HEADER;
-    Author::new(7).times(entries / whole, |a| a.read(0, 0)).read(0, last as u8).session()
+    author.times(entries / whole, |a| a.read(0, 0)).read(0, last as u8).session()
 }
 
 pub fn all() -> Vec<Vec<u8>> {
     let mut all: Vec<Vec<u8>> = accepted().into_iter().map(Author::session).collect();
-    all.push(logging(LOG_SPACE));
-    all.push(logging(LOG_SPACE + 1));
+    // A card that is ready, and one too busy to be read.
+    for author in [Author::new(7), Author::new(7).write(0, &[7])] {
+        all.push(logging(author.clone(), LOG_SPACE));
+        all.push(logging(author, LOG_SPACE + 1));
+    }
     all.push(
         Author::new(0)
-            .text(&vec![b'-'; LONGEST_SESSION - SHORTEST_SESSION - 6])
+            .text(&vec![b'-'; LONGEST_SESSION - SHORTEST_SESSION - 8])
             .verify(3, password(3))
+            .ready()
             .read_fuses()
             .session(),
     );

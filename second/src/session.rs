@@ -1,7 +1,8 @@
 //! A whole session: checked first, then run into its log.
 
 use crate::access::Stage;
-use crate::card::{self, Card};
+use crate::busy::{self, Answer};
+use crate::card::Card;
 use crate::layout::{
     CARD, ENTRY_HEADER, FUSES, LONGEST_SESSION, MOST_RECORDS, SHORTEST_LOG, SHORTEST_SESSION,
     TRAILER,
@@ -18,7 +19,8 @@ pub const MARK: [u8; 2] = [0x53, 0x45];
 pub struct Checked {
     pub start: usize,
     pub count: u16,
-    pub log_length: usize,
+    /// The length of the log if every record is answered in full.
+    pub log_space: usize,
 }
 
 /// Checks a session whole, its records included.
@@ -48,31 +50,30 @@ pub fn check(session: &[u8]) -> Result<Checked, Refusal> {
     if reader.at() != end {
         return Err(Refusal::BytesLeft);
     }
-    Ok(Checked { start, count, log_length: entries + SHORTEST_LOG })
+    Ok(Checked { start, count, log_space: entries + SHORTEST_LOG })
 }
 
 /// Runs a session and answers how many bytes of `log` it wrote.
 pub fn run(session: &[u8], log: &mut [u8]) -> Result<usize, Refusal> {
-    let Checked { start, count, log_length } = check(session)?;
-    let log = log.get_mut(..log_length).ok_or(Refusal::Space)?;
-    let card_at = log_length - SHORTEST_LOG;
-    let (mut entries, rest) = log.split_at_mut(card_at);
-    let (card, trailer) = rest.split_at_mut(CARD);
-    card.copy_from_slice(&session[..CARD]);
-    // The card is worked on where the log keeps it.
-    let card: &mut Card = card.try_into().map_err(|_| Refusal::CardLength)?;
+    let Checked { start, count, log_space } = check(session)?;
+    let log = log.get_mut(..log_space).ok_or(Refusal::Space)?;
+    // What a busy card ignores makes the log shorter, so its final card has no place yet.
+    let mut card: Card = *session.first_chunk().ok_or(Refusal::CardLength)?;
     let mut state = Volatile::POWER_UP;
     let mut reader = Reader::new(session, start);
+    let mut at = 0;
     for _ in 0..count {
         let record = reader.next_record()?;
-        let length = record.response_length();
-        let (entry, after) = entries.split_at_mut(ENTRY_HEADER + length);
+        let Answer { kind, length } = busy::answer(&state, &record);
+        let entry = &mut log[at..at + ENTRY_HEADER + length];
+        at += entry.len();
         let (header, response) = entry.split_at_mut(ENTRY_HEADER);
         let [low, high] = (length as u16).to_le_bytes();
-        header.copy_from_slice(&[record.kind(), low, high]);
-        card::execute(card, &mut state, &record, response);
-        entries = after;
+        header.copy_from_slice(&[kind, low, high]);
+        busy::perform(&mut card, &mut state, &record, response);
     }
-    log::write_trailer(trailer, card_at, count);
-    Ok(log_length)
+    let (last_card, trailer) = log[at..at + SHORTEST_LOG].split_at_mut(CARD);
+    last_card.copy_from_slice(&card);
+    log::write_trailer(trailer, at, count);
+    Ok(at + SHORTEST_LOG)
 }

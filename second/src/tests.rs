@@ -1,13 +1,16 @@
 //! What the paper says in so many words: cases A–L, the edges, the printed example, each refusal
 //! by its number, the tries left, what closed bytes show, and the mistakes that are easily made.
+//! What is said of a busy card has a file of its own.
 
-use std::collections::HashMap;
+mod busy;
+
+use std::collections::{BTreeSet, HashMap};
 
 use crate::author::{counter, fresh_card, password, trailer, Author};
-use crate::command::command;
+use crate::command::{command, Reply};
 use crate::layout::{
     AAC, CARD, CONFIGURATION, ENTRY_HEADER, FUSES, LOG_SPACE, LONGEST_SESSION, MOST_RECORDS,
-    REGISTERS, SHORTEST_LOG, SHORTEST_SESSION, TRAILER, ZONE,
+    REGISTERS, SHORTEST_LOG, SHORTEST_SESSION, STATE, TRAILER, ZONE,
 };
 use crate::listing::listing;
 use crate::record::Reader;
@@ -15,7 +18,7 @@ use crate::refusal::Refusal;
 use crate::session::{check, run};
 use crate::{edges, encoded, examples, gen, log, samples};
 
-const NONE: [u8; 4] = [0, 0, 0, 0];
+const NONE: [u8; STATE] = [0; STATE];
 
 /// The configuration addresses of the seventeen counters, in the order of the listing.
 #[rustfmt::skip]
@@ -26,9 +29,10 @@ const COUNTERS: [usize; 17] = [
 ];
 
 /// A card on the table: its bytes and its volatile state.
+#[derive(Clone, Debug, PartialEq)]
 struct Table {
     card: Vec<u8>,
-    state: [u8; 4],
+    state: [u8; STATE],
 }
 
 impl Table {
@@ -57,12 +61,20 @@ impl Table {
         self
     }
 
-    /// The response, and the tries left.
-    fn reply(&mut self, record: &[u8]) -> (Vec<u8>, u8) {
+    /// The reply and the response; the card may be busy before and afterwards.
+    fn at_once(&mut self, record: &[u8]) -> (Reply, Vec<u8>) {
         let mut space = [0xEE; 256];
         let reply = command(&mut self.card, &mut self.state, record, &mut space).unwrap();
         assert!(space[reply.length..].iter().all(|&b| b == 0xEE));
-        (space[..reply.length].to_vec(), reply.tries)
+        (reply, space[..reply.length].to_vec())
+    }
+
+    /// The response, and the tries left; then the card is ready again.
+    fn reply(&mut self, record: &[u8]) -> (Vec<u8>, u8) {
+        let (reply, response) = self.at_once(record);
+        assert_eq!(reply.kind, record[0]);
+        self.at_once(&[13, 10]);
+        (response, reply.tries)
     }
 
     fn run(&mut self, record: &[u8]) -> Vec<u8> {
@@ -133,7 +145,7 @@ fn case_b_locked_password() {
     assert_eq!((t.card[counter(4)], t.state), (0, NONE));
     let mut t = Table::new(0).active(9).set(counter(4), 0);
     t.verify(4, [0, 0, 0]);
-    assert_eq!((t.card[counter(4)], t.state), (0, [0, 1, 9, 0]));
+    assert_eq!((t.card[counter(4)], t.state), (0, [0, 1, 9, 0, 0]));
 }
 
 #[test]
@@ -193,7 +205,7 @@ fn cases_j_k_fuses_and_reset() {
         t.run(&[9]);
         f
     });
-    assert_eq!((fuses[4], t.card[FUSES], t.state), (0, 0, [0, 1, 7, 0]));
+    assert_eq!((fuses[4], t.card[FUSES], t.state), (0, 0, [0, 1, 7, 0, 0]));
     for active in [6, 15] {
         let mut t = Table::new(7).active(active);
         t.run(&[9]);
@@ -202,7 +214,7 @@ fn cases_j_k_fuses_and_reset() {
     let mut t = Table::new(0).active(3).granted();
     t.run(&[3, 5]);
     assert_eq!(t.run(&[2]), [0x34, 0x55, 0xAA, 0x80]);
-    assert_eq!(t.state, [5, 0, 0, 0]);
+    assert_eq!(t.state, [5, 0, 0, 0, 0]);
     t.run(&[1]);
     assert_eq!(t.state, NONE);
 }
@@ -336,8 +348,8 @@ fn refused_presentations_have_their_number_alone() {
     for record in [&[10, 4, 0xA4, 0x5A, 0x3C][..], &[10, 12, 1, 2, 3], &[11]] {
         assert_eq!(refused(&card[1..], &NONE, record, 0), 11);
         assert_eq!(refused(&fresh_card(5), &NONE, record, 0), 5);
-        assert_eq!(refused(&card, &[8, 0, 0, 0], record, 0), 12);
-        assert_eq!(refused(&card, &[0, 1, 16, 0], record, 0), 12);
+        assert_eq!(refused(&card, &[8, 0, 0, 0, 0], record, 0), 12);
+        assert_eq!(refused(&card, &[0, 1, 16, 0, 0], record, 0), 12);
         assert_eq!(refused(&card, &NONE, &[record, &[0]].concat(), 0), 9);
     }
     assert_eq!(refused(&card, &NONE, &[10, 16, 1, 2, 3], 0), 7);
@@ -349,14 +361,16 @@ fn refused_presentations_have_their_number_alone() {
 #[test]
 fn encoded_commands() {
     let result = |record: &[u8]| {
-        encoded::at88sc1608_command(&mut fresh_card(7), &mut [0; 4], record, &mut [0; 256])
+        encoded::at88sc1608_command(&mut fresh_card(7), &mut NONE.clone(), record, &mut [0; 256])
     };
-    assert_eq!(result(&[1]), 0);
-    assert_eq!(result(&[2]), 0x400);
-    assert_eq!(result(&[4, 0, 0]), 0x1_0000);
-    assert_eq!(result(&[10, 4, 0xA4, 0x5A, 0x3C]), 0x800_0000);
-    assert_eq!(result(&[10, 12, 1, 2, 3]), 0x700_0000);
-    assert_eq!(result(&[11]), 0x700_0000);
+    assert_eq!(result(&[1]), 0x1_0000_0000);
+    assert_eq!(result(&[2]), 0x2_0000_0400);
+    assert_eq!(result(&[4, 0, 0]), 0x4_0001_0000);
+    assert_eq!(result(&[10, 4, 0xA4, 0x5A, 0x3C]), 0xA_0800_0000);
+    assert_eq!(result(&[10, 12, 1, 2, 3]), 0xA_0700_0000);
+    assert_eq!(result(&[11]), 0xB_0700_0000);
+    assert_eq!(result(&[13, 1]), 0xD_0000_0000);
+    assert_eq!(result(&[14]), 0xE_0000_0100);
     assert_eq!(result(&[11, 11]), 9);
 }
 
@@ -381,7 +395,7 @@ fn configuration_rights_go_byte_by_byte() {
     assert_eq!(t.card[CONFIGURATION + 0x0C], 0xFF);
     // Rewriting the active password leaves it active.
     t.run(&[7, 0x78, 4, 0, 1, 2, 3]);
-    assert_eq!((t.card[counter(7)], t.state), (0, [0, 1, 7, 0]));
+    assert_eq!((t.card[counter(7)], t.state), (0, [0, 1, 7, 0, 0]));
 }
 
 /// Registers of a zone that is closed: without the passwords of set 5, without authentication,
@@ -450,14 +464,16 @@ fn closed_reads_are_logged_and_listed() {
         .read(0xFF, 2)
         .read_configuration(0x60, 2)
         .right(7)
+        .ready()
         .write_fuses()
+        .ready()
         .read(0xFF, 2)
         .session();
     let mut space = [0; 3000];
     let n = run(&session, &mut space).unwrap();
     let answer = |number| log::answer(&space[..n], number).unwrap();
-    assert_eq!((answer(0), answer(1), answer(4)), (&[6, 6][..], &[0xFF, 0][..], &[4, 4][..]));
-    let lines = "0 04 06 06\n1 06 FF 00\n2 0A\n3 09\n4 04 04 04\n";
+    assert_eq!((answer(0), answer(1), answer(6)), (&[6, 6][..], &[0xFF, 0][..], &[4, 4][..]));
+    let lines = "0 04 06 06\n1 06 FF 00\n2 0A\n3 0D\n4 09\n5 0D\n6 04 04 04\n";
     let tries = "tries 8 8 8 8 8 8 8 8 8 8 8 8 8 8 8 8 8";
     assert_eq!(listing(&session), format!("{lines}{tries}\nfuses 04\n"));
 }
@@ -479,13 +495,14 @@ fn edges() {
 fn records_refused() {
     #[rustfmt::skip]
     let cases = [
-        (&[][..], 8), (&[0], 6), (&[13], 6), (&[255, 1], 6),
+        (&[][..], 8), (&[0], 6), (&[15], 6), (&[128], 6), (&[132, 0, 1], 6), (&[255, 1], 6),
         (&[3], 8), (&[3, 8], 7), (&[3, 255], 7), (&[4, 1], 8),
         (&[5], 8), (&[5, 0], 8), (&[5, 0, 0], 7), (&[5, 0, 17], 7), (&[5, 0, 2, 1], 8),
         (&[6, 0xFF], 8), (&[6, 0x80, 1], 7), (&[6, 0, 0], 7), (&[6, 1, 0xFF], 7), (&[6, 0, 129], 7),
         (&[7, 0xFF], 8), (&[7, 0x80, 1], 7), (&[7, 0, 0], 7), (&[7, 0, 17], 7), (&[7, 0, 1], 8),
         (&[10], 8), (&[10, 16], 7), (&[10, 0, 1, 2], 8), (&[12], 8), (&[12, 2], 7),
         (&[12, 1, 1, 2, 3, 4, 5, 6, 7], 8), (&[1, 1], 9), (&[4, 0, 1, 0], 9), (&[8, 0], 9),
+        (&[13], 8), (&[13, 0], 7), (&[13, 0, 0], 7), (&[13, 1, 0], 9), (&[14, 0], 9),
     ];
     for (record, number) in cases {
         assert_eq!(decoded(record), number, "{record:02X?}");
@@ -496,15 +513,15 @@ fn records_refused() {
 fn caller_refused() {
     let card = fresh_card(7);
     let odd = fresh_card(5);
-    let bad = [8, 0, 0, 0];
+    let bad = [8, 0, 0, 0, 0];
     assert_eq!(refused(&odd[1..], &bad, &[0], 0), 11);
     assert_eq!(refused(&[&card[..], &[7]].concat(), &NONE, &[8], 1), 11);
     assert_eq!(refused(&odd, &bad, &[0], 0), 5);
     assert_eq!(refused(&card, &bad, &[0], 0), 12);
     #[rustfmt::skip]
-    let states: [&[u8]; 8] = [
-        &[0, 2, 0, 0], &[0, 0, 1, 0], &[0, 1, 16, 0], &[0, 0, 0, 3], &[], &[0; 3], &[0; 5],
-        &[255, 0, 0, 0],
+    let states: [&[u8]; 9] = [
+        &[0, 2, 0, 0, 0], &[0, 0, 1, 0, 0], &[0, 1, 16, 0, 0], &[0, 0, 0, 3, 0], &[0, 0, 0, 0, 11],
+        &[255, 0, 0, 0, 0], &[], &[0; 4], &[0; 6],
     ];
     for state in states {
         assert_eq!(refused(&card, state, &[8], 1), 12, "{state:?}");
@@ -512,7 +529,7 @@ fn caller_refused() {
     assert_eq!(refused(&card, &NONE, &[6, 0, 0], 0), 7);
     assert_eq!(refused(&card, &NONE, &[8, 8], 0), 9);
     assert_eq!(refused(&card, &NONE, &[8], 0), 10);
-    assert_eq!(refused(&card, &[1, 1, 3, 2], &[2], 3), 10);
+    assert_eq!(refused(&card, &[1, 1, 3, 2, 0], &[2], 3), 10);
     assert_eq!(refused(&card, &NONE, &[4, 9, 0], 255), 10);
 }
 
@@ -540,7 +557,7 @@ fn sessions_refused_in_order() {
     assert_eq!(session_refused(&raw(4, &[8], CARD, 0)), 9);
     let two = raw(4, &[8, 2], CARD, 2);
     let needed = SHORTEST_LOG + 2 * ENTRY_HEADER + 1 + 4;
-    assert_eq!(check(&two).map(|c| c.log_length), Ok(needed));
+    assert_eq!(check(&two).map(|c| c.log_space), Ok(needed));
     assert_eq!(run(&two, &mut vec![0; needed - 1]), Err(Refusal::Space));
     assert_eq!(run(&two, &mut vec![0; needed]), Ok(needed));
     let most = usize::from(MOST_RECORDS);
@@ -596,7 +613,9 @@ fn session_and_single_commands_agree() {
             let mut space = [0; 256];
             let record = &session[from..reader.at()];
             let reply = command(&mut card, &mut state, record, &mut space).unwrap();
-            assert_eq!(log::answer(&log[..n], k.into()), Ok(&space[..reply.length]));
+            let found = log::find(&log[..n], k.into()).unwrap();
+            assert_eq!(log[found.start - ENTRY_HEADER], reply.kind);
+            assert_eq!(log[found], space[..reply.length]);
         }
         assert_eq!(card, log[n - SHORTEST_LOG..n - TRAILER]);
     }
@@ -613,7 +632,7 @@ fn printed_example_and_listings() {
     assert_eq!(listing(&power), format!("0 01\n{full}\nfuses 00\n"));
     let none = Author::new(4).session();
     assert_eq!(listing(&none), format!("{full}\nfuses 04\n"));
-    let late = Author::new(0).wrong(3).record(&[13]).session();
+    let late = Author::new(0).wrong(3).record(&[15]).session();
     assert_eq!(listing(&late), "refused 6\n");
 }
 
@@ -637,11 +656,33 @@ fn listing_tells_the_tries_left() {
     let session = author.clone().read_fuses().session();
     assert_eq!(listing(&session), "0 08 06\ntries 0 1 2 3 4 5 6 7 8 2 5 7 1 6 3 5 4\nfuses 06\n");
     // The final card counts: locked, right, wrong, begun.
-    let session = author.right(0).right(1).wrong(2).wrong(12).begin().session();
-    assert_eq!(
-        listing(&session),
-        "0 0A\n1 0A\n2 0A\n3 0A\n4 0B\ntries 0 8 1 3 4 5 6 7 8 2 5 7 0 6 3 5 3\nfuses 06\n"
-    );
+    let session = author.right(0).right(1).ready().wrong(2).ready().wrong(12).ready().begin();
+    let lines = "0 0A\n1 0A\n2 0D\n3 0A\n4 0D\n5 0A\n6 0D\n7 0B\n";
+    let tries = "tries 0 8 1 3 4 5 6 7 8 2 5 7 0 6 3 5 3";
+    assert_eq!(listing(&session.session()), format!("{lines}{tries}\nfuses 06\n"));
+}
+
+/// The kinds that the log of a session shows, if it is not refused.
+fn kinds(session: &[u8]) -> BTreeSet<u8> {
+    let mut log = vec![0; LOG_SPACE];
+    let length = run(session, &mut log).unwrap_or(0);
+    let entries = log::Log::open(&log[..length]).map(|log| log.entries());
+    entries.into_iter().flatten().map(|entry| entry.unwrap().kind).collect()
+}
+
+/// All but the sessions about busy cards wait where they must, so their records are carried out.
+#[test]
+fn sessions_wait_for_the_card() {
+    let ignored = |session: &[u8]| kinds(session).into_iter().any(|kind| kind >= 128);
+    let examples = examples::all().into_iter().filter(|(_, session)| ignored(session));
+    assert!(examples.map(|(name, _)| name).eq(["busy"]));
+    assert_eq!(samples::all().iter().filter(|session| ignored(session)).count(), 3);
+}
+
+#[test]
+fn samples_show_every_kind() {
+    let shown: BTreeSet<u8> = samples::all().iter().flat_map(|session| kinds(session)).collect();
+    assert!(shown.into_iter().eq((1..=14).chain(130..=140)));
 }
 
 #[test]
@@ -662,7 +703,7 @@ fn samples_meet_every_session_refusal() {
         assert!(listings.contains(&format!("refused {number}\n")), "{number}");
     }
     let total: usize = samples::all().iter().map(Vec::len).sum();
-    assert!(total < 300_000);
+    assert!(total < 315_000);
 }
 
 /// The sessions at the edges, by name.
@@ -675,7 +716,7 @@ fn edge_sessions_have_their_sizes() {
     let sessions = edge_sessions();
     let sizes = |name| {
         let session: &[u8] = &sessions[name];
-        let checked = check(session).map(|c| (c.count, c.log_length));
+        let checked = check(session).map(|c| (c.count, c.log_space));
         (session.len(), checked.map_err(Refusal::number))
     };
     assert_eq!(sizes("empty"), (0, Err(1)));
@@ -685,19 +726,25 @@ fn edge_sessions_have_their_sizes() {
     assert_eq!(sizes("byte-more"), (65_537, Err(1)));
     assert_eq!(sizes("record-more"), (65_536, Err(4)));
     assert_eq!(sizes("log-byte-more"), (65_536, Ok((4096, 65_537))));
+    assert_eq!(sizes("busy-greatest"), (65_536, Ok((4096, 65_536))));
+    assert_eq!(sizes("busy-log-byte-more"), (65_536, Ok((4096, 65_537))));
     assert_eq!(listing(&sessions["log-byte-more"]), "refused 10\n");
-    let greatest = listing(&sessions["greatest"]);
-    for kind in 1..=12 {
-        let kind = format!("{kind:02X}");
-        assert!(greatest.lines().any(|line| line.split(' ').nth(1) == Some(&kind)), "{kind}");
-    }
+    assert_eq!(listing(&sessions["busy-log-byte-more"]), "refused 10\n");
+    let mut log = vec![0; LOG_SPACE];
+    // Only where the card is busy is the log shorter than the space that is asked for.
+    assert_eq!(run(&sessions["greatest"], &mut log), Ok(LOG_SPACE));
+    assert!(run(&sessions["busy-greatest"], &mut log).unwrap() < LOG_SPACE);
+    assert!(kinds(&sessions["greatest"]).into_iter().eq(1..=14));
+    let acting = [1, 4, 5, 13, 14];
+    assert!(kinds(&sessions["busy-greatest"]).into_iter().eq(acting.into_iter().chain(130..=140)));
 }
 
 /// The end of a listing; a counter has at most 8 tries, so each number has one digit.
 const ENDING: &str = "tries 8 8 8 8 8 8 8 8 8 8 8 8 8 8 8 8 8\nfuses 07\n";
 
 /// A listing's length depends on how many records there are and how many bytes they answer in all,
-/// so every number of records is tried with the most that it can answer.
+/// so every number of records is tried with the most that it can answer. A busy card answers less
+/// in the same space.
 #[test]
 fn no_listing_is_longer() {
     let (mut digits, mut longest) = (0, 0);

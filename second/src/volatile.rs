@@ -1,5 +1,7 @@
 //! What is lost with power, and the numbers it is made of.
 
+use crate::layout::STATE;
+
 /// A user zone, 0–7.
 #[derive(Clone, Copy, Debug, PartialEq, Eq)]
 pub struct Zone(u8);
@@ -65,21 +67,49 @@ pub enum Authentication {
     Granted,
 }
 
+/// How many milliseconds a card is still busy, 0–10; it is ready at 0.
+#[derive(Clone, Copy, Debug, PartialEq, Eq)]
+pub struct Busy(u8);
+
+impl Busy {
+    pub const READY: Busy = Busy(0);
+    /// A write has just begun.
+    pub const WRITING: Busy = Busy(10);
+
+    pub fn new(milliseconds: u8) -> Option<Busy> {
+        (milliseconds <= Busy::WRITING.0).then_some(Busy(milliseconds))
+    }
+
+    pub fn is_ready(self) -> bool {
+        self == Busy::READY
+    }
+
+    /// What is left when so many milliseconds have passed.
+    pub fn after(self, milliseconds: u8) -> Busy {
+        Busy(self.0.saturating_sub(milliseconds))
+    }
+}
+
 /// The volatile state of a card.
 #[derive(Clone, Copy, Debug, PartialEq, Eq)]
 pub struct Volatile {
     pub zone: Zone,
     pub active: Option<Password>,
     pub authentication: Authentication,
+    pub busy: Busy,
 }
 
 impl Volatile {
-    pub const POWER_UP: Volatile =
-        Volatile { zone: Zone::FIRST, active: None, authentication: Authentication::Idle };
+    pub const POWER_UP: Volatile = Volatile {
+        zone: Zone::FIRST,
+        active: None,
+        authentication: Authentication::Idle,
+        busy: Busy::READY,
+    };
 
-    /// Four bytes: zone, whether a password is active, its selector, authentication.
+    /// Five bytes: zone, whether a password is active, its selector, authentication, busy time.
     pub fn from_bytes(bytes: &[u8]) -> Option<Volatile> {
-        let &[zone, some, selector, authentication] = bytes else {
+        let &[zone, some, selector, authentication, busy] = bytes else {
             return None;
         };
         Some(Volatile {
@@ -95,15 +125,17 @@ impl Volatile {
                 2 => Authentication::Granted,
                 _ => return None,
             },
+            busy: Busy::new(busy)?,
         })
     }
 
-    pub fn to_bytes(self) -> [u8; 4] {
+    pub fn to_bytes(self) -> [u8; STATE] {
         [
             self.zone.0,
             u8::from(self.active.is_some()),
             self.active.map_or(0, Password::selector),
             self.authentication as u8,
+            self.busy.0,
         ]
     }
 }

@@ -4,6 +4,7 @@
 //! A failure prints its seed; `SEED=n` runs the generated tests with that seed alone.
 
 mod both;
+mod busy;
 mod proved;
 
 use std::collections::BTreeMap;
@@ -13,9 +14,10 @@ use second::edges;
 use second::gen::{self, Rng};
 use second::layout::{
     AAC, CARD, CONFIGURATION, ENTRY_HEADER, FUSES, LOG_SPACE, LONGEST_SESSION, MOST_RECORDS,
-    REGISTERS, SHORTEST_LOG, SHORTEST_SESSION, TRAILER,
+    REGISTERS, SHORTEST_LOG, SHORTEST_SESSION, STATE, TRAILER,
 };
 use second::samples;
+use second::session;
 
 const STAGES: [u8; 4] = [7, 6, 4, 0];
 const FIXED: &str = "none: a fixed case";
@@ -58,12 +60,26 @@ fn seeds(count: u64) -> std::ops::Range<u64> {
     }
 }
 
-/// Every volatile state but for the zone.
-fn states(zone: u8) -> Vec<[u8; 4]> {
+/// Every volatile state of a ready card but for the zone.
+fn states(zone: u8) -> Vec<[u8; STATE]> {
     let actives = (0..17).map(|a| if a < 16 { [1, a] } else { [0, 0] });
     actives
-        .flat_map(|[some, selector]| (0..3).map(move |auth| [zone, some, selector, auth]))
+        .flat_map(|[some, selector]| (0..3).map(move |auth| [zone, some, selector, auth, 0]))
         .collect()
+}
+
+/// The result of an accepted command: its kind as it is answered, its response, its tries.
+fn accepted(kind: u8, length: usize, tries: u32) -> u64 {
+    u64::from(kind) << 32 | u64::from(tries) << 24 | (length as u64) << 8
+}
+
+/// The busy time that a record leaves on a ready card.
+fn busy_if(made_busy: bool) -> u8 {
+    if made_busy {
+        10
+    } else {
+        0
+    }
 }
 
 /// A card whose bytes tell their places apart.
@@ -87,6 +103,7 @@ fn every_register_in_every_state() {
                 both::command(FIXED, &mut card, &mut state, &[4, 0xFE, 4], 4);
                 let mut written = card.clone();
                 both::command(FIXED, &mut written, &mut state, &[5, 0x3F, 2, 0x3C, 0x5A], 0);
+                assert_eq!(state[4], 10, "stored or kept out");
             }
         }
     }
@@ -97,10 +114,11 @@ fn closed_read(card: &mut [u8], address: u8, count: u8) {
     let fuses = card[FUSES];
     let needed = if count == 0 { 256 } else { usize::from(count) };
     let record = [4, address, count];
-    assert_eq!(both::command(FIXED, card, &mut [3, 1, 7, 1], &record, needed - 1), 10);
+    let mut state = [3, 1, 7, 1, 0];
+    assert_eq!(both::command(FIXED, card, &mut state, &record, needed - 1), 10);
     for space in [needed, needed + 5] {
-        let (result, response) = both::answered(FIXED, card, &mut [3, 1, 7, 1], &record, space);
-        assert_eq!(result, (needed as u64) << 8);
+        let (result, response) = both::answered(FIXED, card, &mut state, &record, space);
+        assert_eq!(result, accepted(4, needed, 0));
         assert_eq!(response[..needed], vec![fuses; needed], "{address:02X} {count} at F={fuses}");
     }
 }
@@ -129,24 +147,21 @@ fn every_closed_read() {
 #[test]
 fn every_configuration_byte_in_every_state() {
     for fuses in STAGES {
-        for mut state in states(3) {
+        for state in states(3) {
             let card = marked_card(fuses);
-            both::command(FIXED, &mut card.clone(), &mut state, &[6, 0, 128], 128);
+            both::command(FIXED, &mut card.clone(), &mut state.clone(), &[6, 0, 128], 128);
             for address in 0..128 {
                 let (mut one, mut page) = (card.clone(), card.clone());
-                both::command(FIXED, &mut one, &mut state, &[7, address, 1, 0x96], 0);
+                let mut then = state;
+                both::command(FIXED, &mut one, &mut then, &[7, address, 1, 0x96], 0);
+                assert_eq!(then[4], 10, "stored or kept out");
                 let all: Vec<u8> = (0..16).map(|i| 0x80 + i).collect();
                 let record = [&[7, address, 16], &all[..]].concat();
-                both::command(FIXED, &mut page, &mut state, &record, 0);
-                both::command(FIXED, &mut page, &mut state, &[6, address, 1], 1);
+                both::command(FIXED, &mut page, &mut state.clone(), &record, 0);
+                both::command(FIXED, &mut page, &mut state.clone(), &[6, address, 1], 1);
             }
         }
     }
-}
-
-/// The result of an accepted command that has no response.
-fn tries(left: u32) -> u64 {
-    u64::from(left) << 24
 }
 
 #[test]
@@ -164,9 +179,11 @@ fn every_counter_value() {
                     record[2 + wrong] ^= 0x10;
                     left = one_fewer;
                 }
-                let mut state = [5, 1, (selector + 3) % 16, value % 3];
+                let mut state = [5, 1, (selector + 3) % 16, value % 3, 0];
                 let result = both::command(FIXED, &mut card, &mut state, &record, 0);
-                assert_eq!(result, tries(left), "selector {selector}, counter {value:02X}");
+                let what = format!("selector {selector}, counter {value:02X}");
+                assert_eq!(result, accepted(10, 0, left), "{what}");
+                assert_eq!(state[4], busy_if(value != 0), "{what}");
             }
         }
         for state in states(6) {
@@ -174,10 +191,16 @@ fn every_counter_value() {
                 let mut card = marked_card(STAGES[usize::from(value & 3)]);
                 card[AAC] = value;
                 let (mut begun, mut then) = (card.clone(), state);
-                assert_eq!(both::command(FIXED, &mut card, &mut state.clone(), verdict, 0), 0);
+                let mut judged = state;
+                let result = both::command(FIXED, &mut card, &mut judged, verdict, 0);
+                assert_eq!(result, accepted(12, 0, 0));
+                assert_eq!(judged[4], busy_if(state[3] == 1));
                 let result = both::command(FIXED, &mut begun, &mut then, &[11], 0);
-                assert_eq!(result, tries(one_fewer), "AAC {value:02X}");
-                assert_eq!(both::command(FIXED, &mut begun, &mut then, verdict, 0), 0);
+                assert_eq!(result, accepted(11, 0, one_fewer), "AAC {value:02X}");
+                assert_eq!(then[4], busy_if(value != 0), "AAC {value:02X}");
+                both::command(FIXED, &mut begun, &mut then, &[13, 10], 0);
+                let result = both::command(FIXED, &mut begun, &mut then, verdict, 0);
+                assert_eq!(result, accepted(12, 0, 0));
             }
         }
     }
@@ -190,10 +213,11 @@ fn present(selector: u8, stored: [u8; 3], presented: [u8; 3]) {
     let mut card = marked_card(STAGES[usize::from(selector & 3)]);
     card[at + 1..at + 4].copy_from_slice(&stored);
     let record = [&[10, selector][..], &presented].concat();
-    let mut state = [5, 1, (selector + 3) % 16, selector % 3];
+    let mut state = [5, 1, (selector + 3) % 16, selector % 3, 0];
     let result = both::command(FIXED, &mut card, &mut state, &record, 0);
     let left = if stored == presented { 8 } else { 7 };
-    assert_eq!(result, tries(left), "selector {selector}: {stored:02X?}, {presented:02X?}");
+    let what = format!("selector {selector}: {stored:02X?}, {presented:02X?}");
+    assert_eq!(result, accepted(10, 0, left), "{what}");
 }
 
 #[test]
@@ -219,7 +243,7 @@ fn every_password_beside_another() {
 fn every_plain_command_in_every_state() {
     for fuses in STAGES {
         for state in states(2) {
-            for kind in [1, 2, 8, 9] {
+            for kind in [1, 2, 8, 9, 14] {
                 let mut card = marked_card(fuses);
                 let byte = state[2] * 16 + kind;
                 card[CONFIGURATION..CONFIGURATION + 4].copy_from_slice(&[byte, !byte, 0x2C, 0x80]);
@@ -232,21 +256,23 @@ fn every_plain_command_in_every_state() {
     for byte in 0..=255 {
         let mut card = marked_card(7);
         card[CONFIGURATION..CONFIGURATION + 4].fill(byte);
-        both::command(FIXED, &mut card, &mut [7, 1, 1, 1], &[2], 4);
+        both::command(FIXED, &mut card, &mut [7, 1, 1, 1, 0], &[2], 4);
     }
 }
 
-#[test]
-fn every_field_and_length_of_a_record() {
+/// Records with every value of their fields, cut at every length, in one state.
+fn fields_and_lengths(state: [u8; STATE]) {
     let mut card = marked_card(7);
-    let mut state = [1, 1, 7, 0];
+    let mut run = |record: &[u8], space| {
+        both::command(FIXED, &mut card, &mut state.clone(), record, space);
+    };
     for kind in 0..=255 {
         for field in 0..=255 {
             for length in 1..=14 {
                 let mut record = vec![kind, field, 9, 1, 2, 3, 4, 5, 6, 7, 8, 9, 10, 11];
                 record.truncate(length);
-                both::command(FIXED, &mut card, &mut state, &record, 256);
-                if kind > 14 {
+                run(&record, 256);
+                if kind > 16 {
                     break;
                 }
             }
@@ -259,10 +285,10 @@ fn every_field_and_length_of_a_record() {
                 if kind % 2 == 1 {
                     record.resize(3 + usize::from(count.min(20)), address ^ count);
                 }
-                both::command(FIXED, &mut card, &mut state, &record, 256);
+                run(&record, 256);
                 if kind % 2 == 1 && count <= 17 {
                     record.pop();
-                    both::command(FIXED, &mut card, &mut state, &record, 256);
+                    run(&record, 256);
                 }
             }
         }
@@ -270,31 +296,45 @@ fn every_field_and_length_of_a_record() {
     for count in 0..=255u8 {
         let needed = if count == 0 { 256 } else { usize::from(count) };
         for space in [0, needed - 1, needed, needed + 1, 400] {
-            both::command(FIXED, &mut card, &mut state, &[4, 0x80, count], space);
-            both::command(FIXED, &mut card, &mut state, &[6, 0, count], space);
+            run(&[4, 0x80, count], space);
+            run(&[6, 0, count], space);
         }
     }
+}
+
+#[test]
+fn every_field_and_length_of_a_record() {
+    fields_and_lengths([1, 1, 7, 0, 0]);
+}
+
+#[test]
+fn every_field_and_length_of_a_record_met_while_busy() {
+    fields_and_lengths([1, 1, 7, 0, 6]);
 }
 
 #[test]
 fn every_byte_of_a_callers_mistake() {
     // Each caller's fault alone, then together with all that comes later in the order.
     let right = [10, 3, 0xA3, 0x5A, 0x3C];
-    let records: [&[u8]; 7] = [&[8], &[2], &[0], &[8, 8], &[], &right, &[11]];
+    let records: [&[u8]; 11] =
+        [&[8], &[2], &[0], &[8, 8], &[], &right, &[11], &[13, 1], &[13, 0], &[13], &[14]];
     for record in records {
         for space in [0, 4] {
-            for (at, value) in (0..4).flat_map(|at| (0..=255).map(move |value| (at, value))) {
-                for mut state in [[0, 0, 0, 0], [3, 1, 7, 2]] {
+            for (at, value) in (0..STATE).flat_map(|at| (0..=255).map(move |value| (at, value))) {
+                for mut state in [[0, 0, 0, 0, 0], [3, 1, 7, 2, 0], [3, 1, 7, 2, 4]] {
                     state[at] = value;
                     both::command(FIXED, &mut fresh_card(4), &mut state, record, space);
                 }
             }
             for length in 0..9 {
-                let mut state = vec![0; length];
-                both::command(FIXED, &mut fresh_card(4), &mut state, record, space);
+                for byte in [0, 1, 10] {
+                    let mut state = [&[0; 4][..], &[byte; 5]].concat();
+                    state.truncate(length);
+                    both::command(FIXED, &mut fresh_card(4), &mut state, record, space);
+                }
             }
             for fuses in 0..=255 {
-                for mut state in [[0, 0, 0, 0], [8, 0, 0, 0]] {
+                for mut state in [[0, 0, 0, 0, 0], [0, 0, 0, 0, 10], [0, 0, 0, 0, 11]] {
                     let mut card = fresh_card(fuses);
                     both::command(FIXED, &mut card, &mut state, record, space);
                     for length in [0, 1, FUSES, CARD + 1, 4000] {
@@ -309,8 +349,14 @@ fn every_byte_of_a_callers_mistake() {
 }
 
 /// One call of a generated list, faults of the caller included.
-fn one_call(rng: &mut Rng, seed: &str, card: &mut [u8], state: &mut [u8; 4], met: &mut Met) {
-    let mut record = gen::record(rng, card, state);
+fn one_call(
+    rng: &mut Rng,
+    seed: &str,
+    (card, state): (&mut [u8], &mut [u8; STATE]),
+    patience: usize,
+    met: &mut Met,
+) {
+    let mut record = gen::record(rng, card, state, patience);
     if rng.chance(12) {
         record = gen::damaged_record(rng, &record);
     }
@@ -333,10 +379,14 @@ fn one_call(rng: &mut Rng, seed: &str, card: &mut [u8], state: &mut [u8; 4], met
             let (before, was) = (card.to_vec(), *state);
             let result = both::command(seed, card, state, &record, space);
             if result & 0xFF == 0 {
-                met.note(&format!("kind {} at F={}", record[0], before[FUSES]));
-                reached(met, &record, &before, was, card, *state);
-                if let [kind @ (10 | 11), ..] = record[..] {
-                    met.note(&format!("{} tries left by kind {kind}", result >> 24));
+                let kind = (result >> 32) as u8;
+                met.note(&format!("kind {kind} at F={}", before[FUSES]));
+                if kind < 128 {
+                    reached(met, &record, &before, was, card, *state);
+                    met.note(&format!("kind {kind}, busy from {} to {}", was[4], state[4]));
+                }
+                if let 10 | 11 = kind {
+                    met.note(&format!("{} tries left by kind {kind}", result >> 24 & 0xFF));
                 }
             }
             result
@@ -355,13 +405,20 @@ fn has_gap(counter: u8) -> bool {
 }
 
 /// Whether a register keeps a state from reading its zone below F = 7.
-fn closed(register: u8, state: [u8; 4]) -> bool {
+fn closed(register: u8, state: [u8; STATE]) -> bool {
     let opened = state[1] == 1 && state[2] & 7 == register >> 2 & 7;
     register & 0x40 == 0 && !opened || register & 0x20 == 0 && state[3] != 2
 }
 
 /// Notes the deep states that a call has reached.
-fn reached(met: &mut Met, record: &[u8], before: &[u8], was: [u8; 4], card: &[u8], state: [u8; 4]) {
+fn reached(
+    met: &mut Met,
+    record: &[u8],
+    before: &[u8],
+    was: [u8; STATE],
+    card: &[u8],
+    state: [u8; STATE],
+) {
     met.note_if("fuse blown", card[FUSES] != before[FUSES]);
     let zone = usize::from(was[0]) * 256;
     match record[0] {
@@ -416,24 +473,45 @@ fn lists_of_commands() {
     for seed in seeds(4000) {
         let mut rng = Rng::new(seed);
         let mut card = gen::card(&mut rng);
-        let mut state = [0; 4];
-        for call in 0..60 {
+        let mut state = [0; STATE];
+        let mut patience = gen::patience(&mut rng);
+        for call in 0..160 {
+            if call >= 120 && call % 20 == 0 {
+                // From any state at all.
+                state = gen::state(&mut rng);
+            }
+            if rng.chance(4) {
+                patience = gen::patience(&mut rng);
+            }
             let name = format!("{seed}, call {call}");
-            one_call(&mut rng, &name, &mut card, &mut state, &mut met);
-        }
-        // From any state at all.
-        state = gen::state(&mut rng);
-        for call in 60..75 {
-            let name = format!("{seed}, call {call}");
-            one_call(&mut rng, &name, &mut card, &mut state, &mut met);
+            one_call(&mut rng, &name, (&mut card, &mut state), patience, &mut met);
         }
     }
-    met.require("commands", 200_000);
+    met.require("commands", 500_000);
     for refusal in [0, 5, 6, 7, 8, 9, 10, 11, 12] {
         met.require(&format!("refusal {refusal}"), 500);
     }
-    for (kind, fuses) in (1..=12).flat_map(|kind| STAGES.map(|fuses| (kind, fuses))) {
-        met.require(&format!("kind {kind} at F={fuses}"), 300);
+    for fuses in STAGES {
+        for kind in 1..=14 {
+            met.require(&format!("kind {kind} at F={fuses}"), 300);
+        }
+        for kind in 130..=140 {
+            met.require(&format!("kind {kind} at F={fuses}"), 100);
+        }
+    }
+    for busy in 0..=10 {
+        met.require(&format!("kind 1, busy from {busy} to 0"), 10);
+        met.require(&format!("kind 13, busy from {busy} to 0"), 200);
+        met.require(&format!("kind 14, busy from {busy} to {busy}"), 50);
+    }
+    for left in 1..=9 {
+        met.require(&format!("kind 13, busy from 10 to {left}"), 50);
+    }
+    for kind in [5, 7, 9, 10, 11, 12] {
+        met.require(&format!("kind {kind}, busy from 0 to 10"), 300);
+    }
+    for kind in [9, 10, 11, 12] {
+        met.require(&format!("kind {kind}, busy from 0 to 0"), 300);
     }
     #[rustfmt::skip]
     let deep = [
@@ -479,17 +557,22 @@ fn one_session(rng: &mut Rng, seed: &str, session: &[u8], met: &mut Met) {
     let (result, log) = both::run(seed, session, long);
     met.note("sessions");
     met.note(&format!("refusal {}", result & 0xFF));
-    let needed = (result >> 8) as usize;
+    let written = (result >> 8) as usize;
     if result & 0xFF == 0 {
-        both::run(seed, session, needed);
-        both::run(seed, session, needed + 1);
-        let short = rng.below(needed);
-        for space in [needed - 1, short] {
-            let (result, _) = both::run(seed, session, space);
-            met.note(&format!("refusal {}", result & 0xFF));
+        let needed = session::check(session).expect("the session is sound").log_space;
+        for space in [needed, needed + 1] {
+            assert_eq!(both::run(seed, session, space).0, result);
         }
-        read_log(rng, seed, &log[..needed], met);
-        let damaged = gen::damaged_log(rng, &log[..needed]);
+        for space in [needed - 1, rng.below(needed)] {
+            assert_eq!(both::run(seed, session, space).0, 10);
+            met.note("refusal 10");
+        }
+        if written < needed {
+            assert_eq!(both::run(seed, session, written).0, 10);
+            met.note("log shorter than its space");
+        }
+        read_log(rng, seed, &log[..written], met);
+        let damaged = gen::damaged_log(rng, &log[..written]);
         read_log(rng, seed, &damaged, met);
     } else {
         both::run(seed, session, rng.pick(&[0, SHORTEST_LOG - 1, SHORTEST_LOG, 3000]));
@@ -503,7 +586,7 @@ fn sessions_and_logs() {
         let mut rng = Rng::new(seed);
         let name = seed.to_string();
         let few = rng.below(12);
-        let some = rng.below(150);
+        let some = rng.below(250);
         let mut records = rng.pick(&[0, few, few, some, some, some]);
         if rng.chance(2) {
             records = MOST_RECORDS.into();
@@ -515,34 +598,21 @@ fn sessions_and_logs() {
     }
     met.require("sessions", 5_000);
     met.require("log reads", 20_000);
+    met.require("log shorter than its space", 500);
     for refusal in (0..=10).chain([13, 14]) {
         met.require(&format!("refusal {refusal}"), 100);
     }
 }
 
-#[test]
-fn every_change_of_a_trailer_or_header() {
-    let session = Author::new(6)
-        .text(b"text")
-        .reset()
-        .read(0xFF, 3)
-        .write(0x0F, &[1, 2])
-        .read_configuration(0x7E, 2)
-        .write_configuration(0x38, &[1])
-        .right(7)
-        .begin()
-        .verdict(1, b"ABCDEFGH")
-        .select(2)
-        .read_fuses()
-        .write_fuses()
-        .power()
-        .session();
-    let (result, space) = both::run(FIXED, &session, 3000);
+/// Every change of one byte behind the card of a session, and of its log, and every cut.
+fn changes(session: &[u8]) {
+    let (result, space) = both::run(FIXED, session, 3000);
     let log = space[..(result >> 8) as usize].to_vec();
+    let count = u64::from(session[session.len() - 4]);
     for at in (FUSES..session.len()).rev() {
         both::run(FIXED, &session[..at], 3000);
         for value in 0..=255 {
-            let mut changed = session.clone();
+            let mut changed = session.to_vec();
             changed[at] = value;
             both::run(FIXED, &changed, 3000);
         }
@@ -554,7 +624,7 @@ fn every_change_of_a_trailer_or_header() {
         for value in 0..=255 {
             let mut changed = log.clone();
             changed[at] = value;
-            for number in [0, 11, 12] {
+            for number in [0, count - 1, count] {
                 both::answer(FIXED, &changed, number);
             }
         }
@@ -569,6 +639,57 @@ fn every_change_of_a_trailer_or_header() {
 }
 
 #[test]
+fn every_change_of_a_trailer_or_header() {
+    let session = Author::new(6)
+        .text(b"text")
+        .reset()
+        .read(0xFF, 3)
+        .write(0x0F, &[1, 2])
+        .ready()
+        .read_configuration(0x7E, 2)
+        .write_configuration(0x38, &[1])
+        .ready()
+        .right(7)
+        .ready()
+        .begin()
+        .poll()
+        .ready()
+        .verdict(1, b"ABCDEFGH")
+        .ready()
+        .select(2)
+        .read_fuses()
+        .write_fuses()
+        .power();
+    changes(&session.session());
+}
+
+#[test]
+fn every_change_of_a_trailer_or_header_met_while_busy() {
+    let session = Author::new(6)
+        .text(b"text")
+        .write(0x0F, &[1, 2])
+        .reset()
+        .read(0xFF, 3)
+        .write(0x0F, &[3, 4])
+        .read_configuration(0x7E, 2)
+        .write_configuration(0x38, &[1])
+        .right(7)
+        .begin()
+        .poll()
+        .wait(9)
+        .verdict(1, b"ABCDEFGH")
+        .select(2)
+        .read_fuses()
+        .write_fuses()
+        .wait(1)
+        .poll()
+        .begin()
+        .read_fuses()
+        .power();
+    changes(&session.session());
+}
+
+#[test]
 fn every_set_of_faults_in_a_session() {
     for faults in 0..256 {
         let has = |bit: u32| faults >> bit & 1 == 1;
@@ -577,7 +698,7 @@ fn every_set_of_faults_in_a_session() {
             author = author.text(&[b' '; LONGEST_SESSION]);
         }
         if has(5) {
-            author = author.record(&[13]);
+            author = author.record(&[15]);
         }
         if has(6) {
             author = author.select(8);
@@ -621,7 +742,7 @@ fn written_log(entries: &[(u8, u16)], count: u16) -> Vec<u8> {
 
 #[test]
 fn every_kind_and_length_in_a_log() {
-    for kind in 0..=14 {
+    for kind in 0..=255 {
         for length in (0..=300).chain([511, 512, 0x0101, 0xFFFF]) {
             let log = written_log(&[(8, 1), (kind, length), (1, 0)], 3);
             for number in 0..4 {
@@ -653,6 +774,10 @@ fn edges_of_length_and_count() {
             |record: &[u8]| Author::new(4).times(count.into(), |a| a.record(record)).session();
         both::run(FIXED, &many(&[8]), 70_000);
         both::run(FIXED, &many(&[4, 3, 0]), 1_100_000);
+        // The first write makes the card busy, and it is met so by all the others.
+        both::run(FIXED, &many(&[5, 3, 2, 1, 2]), 70_000);
+        let reads = Author::new(4).begin().times(usize::from(count) - 1, |a| a.read(3, 0));
+        both::run(FIXED, &reads.session(), 1_100_000);
     }
 }
 
@@ -662,6 +787,11 @@ fn sample_and_edge_sessions() {
     for session in samples::all().into_iter().chain(edges) {
         for space in [0, SHORTEST_LOG, LOG_SPACE, 1_100_000] {
             both::run(FIXED, &session, space);
+        }
+        if let Ok(checked) = session::check(&session) {
+            for space in [checked.log_space - 1, checked.log_space] {
+                both::run(FIXED, &session, space);
+            }
         }
     }
 }

@@ -1,22 +1,23 @@
 -- Admission, from what the tests of the code found, in their order.
 use Prim.Native.Nat.{ℕ, _≤_, _<_}
-use mathlib.Core.Bool.{Bool, true, false, not}
+use mathlib.Core.Bool.{Bool, true, false, cond, not, _&&_}
 use mathlib.Core.List.{List, []}
 use mathlib.Core.Path.{_≡_, sym, _∙_}
 use borrow.Author.Tests.{lt-ltb, le-ltb, eq-eqb, ne-eqb}
+use lib.Dec.{ltb}
 use lib.ListN.{length}
 use Rattle.model.specs.Sizes.{cardSize, fuseAt}
 use Rattle.model.specs.Lists.{at}
-use Rattle.model.specs.Volatile.{Volatile}
+use Rattle.model.specs.Busy.{State, isBusy, actsAlways}
 use Rattle.model.specs.Call.{refused, whole}
 use Rattle.model.specs.Call as calls
 use Rattle.model.specs.At88sc1608.{at88sc1608}
-use Rattle.laws.specs.Effects.{answerLength, answer-length}
+use Rattle.laws.specs.BusyLaws.{fullAnswer, given-answer}
 use Rattle.model.specs.Record.{made, decode}
 use Rattle.model.specs.Refusal.{cardLength, fuseByte, stateOutOfRange, bytesLeft, noSpace}
-use Rattle.model.specs.Single.{isFuseByte, stateInRange, checkOf, check, apply, admission}
-use Rattle.record.specs.DecodedRecord.{commandOf, headOf}
-use Rattle.record.specs.HeadLaws.{head-known, head-answer}
+use Rattle.model.specs.Single.{isFuseByte, stateInRange, checkOf, check, act, admission}
+use Rattle.record.specs.DecodedRecord.{instructionOf, headOf}
+use Rattle.record.specs.HeadLaws.{head-known, head-kind, head-answer}
 use Rattle.record.specs.RefusalNumber.{refusalNumber, number-some}
 use Rattle.record.specs.declared.decoder.Head.{Head}
 use Rattle.record.specs.declared.decoder.Record.{Record}
@@ -24,7 +25,7 @@ use Rattle.record.specs.declared.refusal.Refusal.{Refusal}
 
 -- ---- the checks
 
-module _ (c : List ℕ) (s : Volatile) where
+module _ (c : List ℕ) (s : State) where
   pub bad-length : (length c ≡ cardSize → ⊥) → cardLength ≡ check c s
   unfolding checkOf
   bad-length n = rw (ne-eqb _ _ n)
@@ -45,7 +46,7 @@ module _ (c : List ℕ) (s : Volatile) where
 
 -- ---- admission
 
-module _ (c : List ℕ) (s : Volatile) (bytes : List ℕ) (room : ℕ) where
+module _ (c : List ℕ) (s : State) (bytes : List ℕ) (room : ℕ) where
   pub check-refused : (why : Refusal) → refusalNumber why ≡ check c s → refused (refusalNumber why) ≡ admission c s bytes room
   unfolding calls.admission
   check-refused why e = rw (← e, number-some why .1)
@@ -55,25 +56,28 @@ module _ (c : List ℕ) (s : Volatile) (bytes : List ℕ) (room : ℕ) where
     unfolding calls.admission
     record-refused n e = rw (← passed, ← e)
 
-    module _ (r : Record) (n : ℕ) (decoded : whole (commandOf bytes n r) n ≡ decode bytes) where
+    module _ (r : Record) (n : ℕ) (decoded : whole (instructionOf bytes n r) n ≡ decode bytes) where
       pub left-over : n < length bytes → refused bytesLeft ≡ admission c s bytes room
       unfolding calls.admission
       left-over l = rw (← passed, ← decoded, lt-ltb _ _ l)
 
       module _ (h : Head) (head : h ≡ headOf bytes) where
-        pub known-head : h .kind ≤ 12
-        known-head = head-known bytes (commandOf bytes n r) n (sym decoded) h head
+        pub known-head : h .kind ≤ 14
+        known-head = head-known bytes (instructionOf bytes n r) n (sym decoded) h head
 
-        module _ (m : ℕ) (all : length bytes ≤ n) (long : m ≡ answerLength at88sc1608 (made (h .kind) 0 (h .n) [])) where
-          answered : length (apply c s (commandOf bytes n r) .report .answer) ≡ m
+        module _ (m : ℕ) (all : length bytes ≤ n)
+            (long : m ≡ cond (ltb 0 (s .busy) && not (actsAlways (h .kind))) 0 (fullAnswer at88sc1608 (made (h .kind) 0 (h .n) []))) where
+          answered : length (act c s (instructionOf bytes n r) .report .answer) ≡ m
           answered =
-              answer-length at88sc1608 c s (commandOf bytes n r)
-              ∙ sym (head-answer bytes (commandOf bytes n r) n (sym decoded) h head) ∙ sym long
+              let k = head-kind bytes (instructionOf bytes n r) n (sym decoded) h head in
+              let a = head-answer bytes (instructionOf bytes n r) n (sym decoded) h head in
+              given-answer at88sc1608 c s (instructionOf bytes n r)
+              ∙ sym (long ∙ (λ i. cond (isBusy s && not (actsAlways (k i))) 0 (a i)))
 
           pub no-room : room < m → refused noSpace ≡ admission c s bytes room
           unfolding calls.admission
           no-room l = rw (← passed, ← decoded, le-ltb _ _ all, answered, lt-ltb _ _ l)
 
-          pub is-admitted : m ≤ room → whole (commandOf bytes n r) n ≡ admission c s bytes room
+          pub is-admitted : m ≤ room → whole (instructionOf bytes n r) n ≡ admission c s bytes room
           unfolding calls.admission
           is-admitted l = rw (← passed, ← decoded, le-ltb _ _ all, answered, le-ltb _ _ l)

@@ -1,65 +1,77 @@
 -- The single command, from its admission and from what was carried out.
-use Prim.Native.Nat.{ℕ, _≤_}
+use Prim.Native.Nat.{ℕ, _+_, _≤_}
+use mathlib.Core.Bool.{Bool, true, false, not, _&&_}
 use mathlib.Core.List.{List, [], _++_}
-use mathlib.Core.Path.{_≡_, sym, ap, _∙_}
-use borrow.Author.Tests.{ltb-true}
+use mathlib.Core.Path.{_≡_, sym, _∙_}
+use lib.Dec.{ltb}
 use lib.ListN.{length, drop}
-use Rattle.laws.specs.BoolLaws.{and-left}
-use Rattle.model.specs.Volatile.{Volatile}
-use Rattle.model.specs.Command.{Command}
+use Rattle.model.specs.Busy.{State, actsAlways}
+use Rattle.model.specs.Instruction.{Instruction}
 use Rattle.model.specs.Call.{refused, whole, calling, refusing}
 use Rattle.model.specs.Call as calls
 use Rattle.laws.specs.CallLaws.{Admitted, admitted}
 use Rattle.model.specs.At88sc1608.{at88sc1608}
-use Rattle.laws.specs.Effects.{answerLength, answer-length}
+use Rattle.laws.specs.BusyLaws.{fullAnswer, given-answer}
 use Rattle.model.specs.Record.{made, decode}
-use Rattle.laws.specs.RecordLaws.{decode-within, decode-fields}
-use Rattle.laws.specs.Sane.{Good, good-check}
-use Rattle.model.specs.Single.{check, apply, admission, command}
-use Rattle.record.specs.DecodedRecord.{headOf}
-use Rattle.record.specs.HeadLaws.{head-known, head-answer}
+use Rattle.laws.specs.Sane.{good-check}
+use Rattle.model.specs.Single.{check, act, admission, command}
+use Rattle.record.specs.DecodedRecord.{headOf, askedBy}
+use Rattle.record.specs.HeadLaws.{head-instruction}
 use Rattle.record.specs.declared.decoder.Head.{Head}
-use Rattle.carry.specs.Carried.{Ready, Carried}
+use Rattle.carry.specs.Carried.{Ready, Carried, ActReady, Acted}
+use Rattle.carry.specs.ActLaws.{act-known, acted-ignored, carry-ready, acted-carried}
 
-module _ (c : List ℕ) (s : Volatile) (bytes space : List ℕ) where
+module _ (c : List ℕ) (s : State) (bytes space : List ℕ) where
   pub call-refused : (n : ℕ) → refused n ≡ admission c s bytes (length space)
       → record { card = c; reply = refusing n s space } ≡ command c s (calling bytes space)
   unfolding calls.command
   call-refused n e = rw (← e)
 
-  module _ (k : Command) (n : ℕ) (e : whole k n ≡ admission c s bytes (length space)) where
-    abbrev a : Admitted check decode apply c s (calling bytes space) k n
-    a = admitted check decode apply c s (calling bytes space) k n (sym e)
+  module _ (i : Instruction) (n : ℕ) (e : whole i n ≡ admission c s bytes (length space)) (h : Head) (head : h ≡ headOf bytes) where
+    a : Admitted check decode act c s (calling bytes space) i n
+    a = admitted check decode act c s (calling bytes space) i n (sym e)
 
-    pub ready : Ready c s k bytes n space
-    ready =
-        let g : Good c s = good-check c s (a .checks) in
-        record {
-          long = g .long;
-          zone = ltb-true (s .zone) 8 (and-left _ _ (g .range));
-          fields = decode-fields bytes k n (a .decodes);
-          within = decode-within bytes k n (a .decodes) .1;
-          room = rw (answer-length at88sc1608 c s k) at (a .fits);
-        }
+    asked : askedBy bytes n h ≡ i
+    asked = head-instruction bytes i n (a .decodes) h head
 
-    module _ (h : Head) (head : h ≡ headOf bytes) where
-      pub call-known : h .kind ≤ 12
-      call-known = head-known bytes k n (a .decodes) h head
+    ready : (h ≡ headOf bytes) × ActReady c s i bytes n space
+    ready = (head, record { good = good-check c s (a .checks); decodes = a .decodes; room = rw (given-answer at88sc1608 c s i) at (a .fits) })
 
-      pub call-carried : (m : ℕ) (c′ : List ℕ) (s′ : Volatile) (tries : ℕ) (space′ : List ℕ) → m ≡ answerLength at88sc1608 (made (h .kind) 0 (h .n) [])
-          → Carried c s k space c′ s′ tries space′
-          → record { card = c′; reply = record { refusal = 0; size = m; state = s′; tries = tries; space = space′ } } ≡ command c s (calling bytes space)
-      unfolding calls.command
-      call-carried m c′ s′ tries space′ q w =
-          let l : length (apply c s k .report .answer) ≡ answerLength at88sc1608 k = answer-length at88sc1608 c s k in
-          rw (← e)
-          (λ i. record {
-            card = w .card i;
-            reply = record {
-              refusal = 0;
-              size = (q ∙ head-answer bytes k n (a .decodes) h head ∙ sym l) i;
-              state = w .state i;
-              tries = w .handed i;
-              space = (w .answer ∙ ap (λ (j : ℕ). apply c s k .report .answer ++ drop j space) (sym l)) i;
-            };
-          })
+    pub call-known : h .kind ≤ 14
+    call-known = act-known c s i bytes n space h ready
+
+    call-acted : (c′ : List ℕ) (kind size : ℕ) (s′ : State) (tries : ℕ) (space′ : List ℕ) → Acted c s i space c′ kind size s′ tries space′
+        → record { card = c′; reply = record { refusal = 0; kind = kind; size = size; state = s′; tries = tries; space = space′ } }
+        ≡ command c s (calling bytes space)
+    unfolding calls.command
+    call-acted c′ kind size s′ tries space′ w =
+        rw (← e)
+        (λ j. record {
+          card = w .card j;
+          reply = record {
+            refusal = 0;
+            kind = w .kind-is j;
+            size = w .size-is j;
+            state = w .state j;
+            tries = w .handed j;
+            space = (w .answer ∙ (λ k. act c s i .report .answer ++ drop (w .size-is k) space)) j;
+          };
+        })
+
+    module _ (t : Bool) (tested : t ≡ (ltb 0 (s .busy) && not (actsAlways (h .kind)))) where
+      pub call-ignored : t ≡ true
+          → record { card = c; reply = record { refusal = 0; kind = h .kind + 128; size = 0; state = s; tries = 0; space = space } }
+          ≡ command c s (calling bytes space)
+      call-ignored q = call-acted c (h .kind + 128) 0 s 0 space (acted-ignored c s i bytes n space h ready t tested q)
+
+      module _ (q : t ≡ false) where
+        pub call-ready : Ready c s (askedBy bytes n h) bytes n space
+        call-ready = rw asked (carry-ready c s i bytes n space h ready t tested q)
+
+        pub call-carried : (m : ℕ) (c′ : List ℕ) (s′ : State) (tries : ℕ) (space′ : List ℕ) → m ≡ fullAnswer at88sc1608 (made (h .kind) 0 (h .n) [])
+            → Carried c s (askedBy bytes n h) space c′ s′ tries space′
+            → record { card = c′; reply = record { refusal = 0; kind = h .kind; size = m; state = s′; tries = tries; space = space′ } }
+            ≡ command c s (calling bytes space)
+        call-carried m c′ s′ tries space′ p w =
+            call-acted c′ (h .kind) m s′ tries space′
+            (acted-carried c s i bytes n space h ready t tested q m c′ s′ tries space′ p (rw asked at w))

@@ -10,20 +10,21 @@ use lib.ListN.{length}
 use Rattle.model.specs.Call.{Call, Powered, powered, step}
 use Rattle.model.specs.Call as calls
 use Rattle.model.specs.Lists.{at}
-use Rattle.model.specs.Volatile as model
+use Rattle.model.specs.Busy.{powerOn, answeredKind}
+use Rattle.model.specs.Busy as model
 use Rattle.model.specs.Access.{rpe, ate, passwordSet}
 use Rattle.model.specs.At88sc1608.{at88sc1608}
 use Rattle.model.specs.Device.{Counter, counterPlace}
 use Rattle.model.specs.Record.{decode}
-use Rattle.model.specs.Single.{check, apply, command, replies, final}
+use Rattle.model.specs.Single.{check, act, command, replies, final}
 use Rattle.secrecy.specs.Secret.{Sealed, register, inZone, inZoneOrPasswords, AgreeOutside}
 use Rattle.secrecy.specs.Secret.{PresentsNeither, AcceptsNot, Throughout, Indistinguishable}
 use Rattle.secrecy.specs.CardSecrecy as model-claims
-use Rattle.access.specs.State.{volatileOf}
-use Rattle.access.specs.declared.volatile.Volatile.{Volatile}
+use Rattle.busy.specs.TimedState.{stateOf}
+use Rattle.busy.specs.declared.State.{State}
 use Rattle.command.specs.declared.Reply.{Reply}
 use Rattle.command.specs.Reply.{calledOf}
-use Rattle.command.specs.Injective.{outcome-injective, volatile-injective}
+use Rattle.command.specs.Injective.{outcome-injective, state-injective}
 
 -- what one call gives back: its result, and its response space at exit
 pub record Given : Type 0 where
@@ -31,33 +32,33 @@ pub record Given : Type 0 where
   pub space : List ℕ
 
 -- calls, the card and the state that they start with, what each gives back, and the card that they leave
-pub data Run : List Call → List ℕ → Volatile → List Given → List ℕ → Type 0 where
-  none : {c : List ℕ} {s : Volatile} → Run [] c s [] c
-  one-more : {x : Call} {xs : List Call} {c d e : List ℕ} {s : Volatile} {g : Given} {gs : List Given}
-      → calledOf (g .reply) d (g .space) ≡ command c (volatileOf s) x → Run xs d (g .reply .state) gs e → Run (x ∷ xs) c s (g ∷ gs) e
+pub data Run : List Call → List ℕ → State → List Given → List ℕ → Type 0 where
+  none : {c : List ℕ} {s : State} → Run [] c s [] c
+  one-more : {x : Call} {xs : List Call} {c d e : List ℕ} {s : State} {g : Given} {gs : List Given}
+      → calledOf (g .reply) d (g .space) ≡ command c (stateOf s) x → Run xs d (g .reply .state) gs e → Run (x ∷ xs) c s (g ∷ gs) e
 
 -- ---- a run of the code is the model's
 
-abbrev replyOf : Given → calls.Reply model.Volatile
+abbrev replyOf : Given → calls.Reply model.State
 replyOf g = calledOf (g .reply) [] (g .space) .reply
 
-run-model : {xs : List Call} {c e : List ℕ} {s : Volatile} {gs : List Given} → Run xs c s gs e
-    → (map replyOf gs ≡ replies xs (powered c (volatileOf s))) × (e ≡ final xs (powered c (volatileOf s)) .card)
+run-model : {xs : List Call} {c e : List ℕ} {s : State} {gs : List Given} → Run xs c s gs e
+    → (map replyOf gs ≡ replies xs (powered c (stateOf s))) × (e ≡ final xs (powered c (stateOf s)) .card)
 unfolding calls.replies calls.final
 run-model none = (refl, refl)
 run-model (one-more {x = x} {xs = xs} {c = c} {d = d} {s = s} {g = g} call rest) =
     let ih = run-model rest in
-    let m : powered d (volatileOf (g .reply .state)) ≡ step check decode apply (powered c (volatileOf s)) x =
+    let m : powered d (stateOf (g .reply .state)) ≡ step check decode act answeredKind (powered c (stateOf s)) x =
     λ i. record { card = call i .card; state = call i .reply .state } in
-    (λ i. call i .reply ∷ (ih .0 ∙ ap (replies xs) m) i, ih .1 ∙ ap (λ (n : Powered model.Volatile). final xs n .card) m)
+    (λ i. call i .reply ∷ (ih .0 ∙ ap (replies xs) m) i, ih .1 ∙ ap (λ (n : Powered model.State). final xs n .card) m)
 
 -- ---- equal in the model, equal in the code
 
 given-injective : (g h : Given) → replyOf g ≡ replyOf h → g ≡ h
 given-injective g h e =
     let o = outcome-injective (g .reply .outcome) (h .reply .outcome) (λ i. e i .refusal) in
-    let v = volatile-injective (g .reply .state) (h .reply .state) (λ i. e i .state) in
-    λ i. record { reply = record { outcome = o i; size = e i .size; state = v i; tries = e i .tries }; space = e i .space }
+    let v = state-injective (g .reply .state) (h .reply .state) (λ i. e i .state) in
+    λ i. record { reply = record { outcome = o i; kind = e i .kind; size = e i .size; state = v i; tries = e i .tries }; space = e i .space }
 
 all-injective : (gs hs : List Given) → map replyOf gs ≡ map replyOf hs → gs ≡ hs
 all-injective [] [] e = refl
@@ -77,17 +78,17 @@ pub record NotToldApart (hidden : ℕ → Bool) (gs₁ gs₂ : List Given) (d₁
   pub counters : (n : Counter) → at d₁ (counterPlace at88sc1608 n) ≡ at d₂ (counterPlace at88sc1608 n)
   pub outside : (i : ℕ) → hidden i ≡ false → at d₁ i ≡ at d₂ i
 
-from-model : (hidden : ℕ → Bool) (xs : List Call) (b₁ b₂ : List ℕ) (s : Volatile) (gs₁ gs₂ : List Given) (d₁ d₂ : List ℕ) → volatileOf s ≡ model.powerUp
+from-model : (hidden : ℕ → Bool) (xs : List Call) (b₁ b₂ : List ℕ) (s : State) (gs₁ gs₂ : List Given) (d₁ d₂ : List ℕ) → stateOf s ≡ powerOn
     → Run xs b₁ s gs₁ d₁ → Run xs b₂ s gs₂ d₂ → Indistinguishable hidden xs b₁ b₂ → NotToldApart hidden gs₁ gs₂ d₁ d₂
 from-model hidden xs b₁ b₂ s gs₁ gs₂ d₁ d₂ e r₁ r₂ w =
     let m₁ = run-model r₁ in
     let m₂ = run-model r₂ in
-    let f₁ : d₁ ≡ final xs (powered b₁ model.powerUp) .card = m₁ .1 ∙ ap (λ (t : model.Volatile). final xs (powered b₁ t) .card) e in
-    let f₂ : d₂ ≡ final xs (powered b₂ model.powerUp) .card = m₂ .1 ∙ ap (λ (t : model.Volatile). final xs (powered b₂ t) .card) e in
+    let f₁ : d₁ ≡ final xs (powered b₁ powerOn) .card = m₁ .1 ∙ ap (λ (t : model.State). final xs (powered b₁ t) .card) e in
+    let f₂ : d₂ ≡ final xs (powered b₂ powerOn) .card = m₂ .1 ∙ ap (λ (t : model.State). final xs (powered b₂ t) .card) e in
     record {
       observed =
           all-injective gs₁ gs₂
-          (m₁ .0 ∙ ap (λ (t : model.Volatile). replies xs (powered b₁ t)) e ∙ w .observed ∙ ap (λ (t : model.Volatile). replies xs (powered b₂ t)) (sym e)
+          (m₁ .0 ∙ ap (λ (t : model.State). replies xs (powered b₁ t)) e ∙ w .observed ∙ ap (λ (t : model.State). replies xs (powered b₂ t)) (sym e)
           ∙ sym (m₂ .0));
       long = rw (f₁, f₂) (w .long);
       counters = λ n. rw (f₁, f₂) (w .counters n);
@@ -98,7 +99,7 @@ from-model hidden xs b₁ b₂ s gs₁ gs₂ d₁ d₂ e r₁ r₂ w =
 pub read-password : (z : ℕ) → z < 8 → (b₁ b₂ : List ℕ) → Sealed b₁ → Sealed b₂ → rpe (register b₁ z) ≡ true
     → AgreeOutside (inZoneOrPasswords z (passwordSet (register b₁ z))) b₁ b₂
     → (xs : List Call) → Throughout (PresentsNeither (passwordSet (register b₁ z)) b₁ b₂) xs b₁
-    → (s : Volatile) (gs₁ gs₂ : List Given) (d₁ d₂ : List ℕ) → volatileOf s ≡ model.powerUp → Run xs b₁ s gs₁ d₁ → Run xs b₂ s gs₂ d₂
+    → (s : State) (gs₁ gs₂ : List Given) (d₁ d₂ : List ℕ) → stateOf s ≡ powerOn → Run xs b₁ s gs₁ d₁ → Run xs b₂ s gs₂ d₂
     → NotToldApart (inZoneOrPasswords z (passwordSet (register b₁ z))) gs₁ gs₂ d₁ d₂
 read-password z l b₁ b₂ s₁ s₂ r h xs a s gs₁ gs₂ d₁ d₂ e r₁ r₂ =
     from-model (inZoneOrPasswords z (passwordSet (register b₁ z))) xs b₁ b₂ s gs₁ gs₂ d₁ d₂ e r₁ r₂ (model-claims.read-password z l b₁ b₂ s₁ s₂ r h xs a)
@@ -106,7 +107,7 @@ read-password z l b₁ b₂ s₁ s₂ r h xs a s gs₁ gs₂ d₁ d₂ e r₁ r�
 -- authentication, likewise
 pub authentication-demanded : (z : ℕ) → z < 8 → (b₁ b₂ : List ℕ) → Sealed b₁ → Sealed b₂ → ate (register b₁ z) ≡ true
     → AgreeOutside (inZone z) b₁ b₂ → (xs : List Call) → Throughout AcceptsNot xs b₁
-    → (s : Volatile) (gs₁ gs₂ : List Given) (d₁ d₂ : List ℕ) → volatileOf s ≡ model.powerUp → Run xs b₁ s gs₁ d₁ → Run xs b₂ s gs₂ d₂
+    → (s : State) (gs₁ gs₂ : List Given) (d₁ d₂ : List ℕ) → stateOf s ≡ powerOn → Run xs b₁ s gs₁ d₁ → Run xs b₂ s gs₂ d₂
     → NotToldApart (inZone z) gs₁ gs₂ d₁ d₂
 authentication-demanded z l b₁ b₂ s₁ s₂ r h xs a s gs₁ gs₂ d₁ d₂ e r₁ r₂ =
     from-model (inZone z) xs b₁ b₂ s gs₁ gs₂ d₁ d₂ e r₁ r₂ (model-claims.authentication-demanded z l b₁ b₂ s₁ s₂ r h xs a)

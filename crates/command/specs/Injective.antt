@@ -10,6 +10,8 @@ use Rattle.access.specs.declared.volatile.Active.the-variants as active
 use Rattle.access.specs.declared.volatile.Authentication.{Authentication}
 use Rattle.access.specs.declared.volatile.Authentication.the-variants as authentication
 use Rattle.access.specs.declared.volatile.Volatile.{Volatile}
+use Rattle.busy.specs.TimedState.{stateOf}
+use Rattle.busy.specs.declared.State.{State}
 use Rattle.record.specs.RefusalNumber.{refusalNumber, outcomeNumber}
 use Rattle.record.specs.declared.refusal.Refusal.{Refusal}
 use Rattle.record.specs.declared.refusal.Refusal.the-variants as refusal
@@ -82,3 +84,8 @@ volatile-injective v w e =
     sym (authentication-back (v .authentication)) ∙ ap (λ (s : model.Volatile). authenticationFrom (s .authentication)) e
     ∙ authentication-back (w .authentication) in
     λ i. record { zone = record { 0 = e i .zone }; active = a i; authentication = t i }
+
+pub state-injective : (s t : State) → stateOf s ≡ stateOf t → s ≡ t
+state-injective s t e =
+    let v = volatile-injective (s .volatile) (t .volatile) (λ i. e i .volatile) in
+    λ i. record { volatile = v i; busy = e i .busy }

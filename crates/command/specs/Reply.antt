@@ -2,15 +2,23 @@
 use Prim.Native.Nat.{ℕ}
 use mathlib.Core.List.{List}
 use Rattle.model.specs.Call as call
-use Rattle.model.specs.Volatile as model
-use Rattle.access.specs.State.{volatileOf}
+use Rattle.model.specs.Busy.{State}
+use Rattle.busy.specs.TimedState.{stateOf}
 use Rattle.record.specs.RefusalNumber.{outcomeNumber}
 use Rattle.command.specs.declared.Reply.{Reply}
 
 -- the result with the card and the response space at exit
-abbrev pub calledOf : Reply → List ℕ → List ℕ → call.Called model.Volatile
+abbrev pub calledOf : Reply → List ℕ → List ℕ → call.Called State
 calledOf r card space =
     record {
       card = card;
-      reply = record { refusal = outcomeNumber (r .outcome); size = r .size; state = volatileOf (r .state); tries = r .tries; space = space };
+      reply =
+          record {
+            refusal = outcomeNumber (r .outcome);
+            kind = r .kind;
+            size = r .size;
+            state = stateOf (r .state);
+            tries = r .tries;
+            space = space;
+          };
     }

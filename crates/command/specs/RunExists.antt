@@ -7,10 +7,13 @@ use Rattle.model.specs.Call.{Call}
 use Rattle.model.specs.Call as calls
 use Rattle.laws.specs.Tables.{agree-at}
 use Rattle.model.specs.Volatile as model
+use Rattle.model.specs.Busy as busy
 use Rattle.model.specs.Single.{command}
 use Rattle.laws.specs.SingleLaws.{refusal-small}
 use Rattle.access.specs.State.{activeOf, authenticationOf, volatileOf}
 use Rattle.access.specs.declared.volatile.Volatile.{Volatile}
+use Rattle.busy.specs.TimedState.{stateOf}
+use Rattle.busy.specs.declared.State.{State}
 use Rattle.command.specs.declared.Reply.{Reply}
 use Rattle.record.specs.RefusalNumber.{outcomeNumber}
 use Rattle.command.specs.Reply.{calledOf}
@@ -21,10 +24,13 @@ use Rattle.command.specs.CodeSecrecy.{Given, Run, none, one-more}
 abbrev volatileFrom : model.Volatile → Volatile
 volatileFrom v = record { zone = record { 0 = v .zone }; active = activeFrom (v .active); authentication = authenticationFrom (v .authentication) }
 
-abbrev givenFrom : calls.Reply model.Volatile → Given
+abbrev stateFrom : busy.State → State
+stateFrom s = record { volatile = volatileFrom (s .volatile); busy = s .busy }
+
+abbrev givenFrom : calls.Reply busy.State → Given
 givenFrom r =
     record {
-      reply = record { outcome = outcomeFrom (r .refusal); size = r .size; state = volatileFrom (r .state); tries = r .tries };
+      reply = record { outcome = outcomeFrom (r .refusal); kind = r .kind; size = r .size; state = stateFrom (r .state); tries = r .tries };
       space = r .space;
     }
 
@@ -40,18 +46,22 @@ authentication-there model.granted = refl
 volatile-there : (v : model.Volatile) → volatileOf (volatileFrom v) ≡ v
 volatile-there v = λ i. record { zone = v .zone; active = active-there (v .active) i; authentication = authentication-there (v .authentication) i }
 
+state-there : (s : busy.State) → stateOf (stateFrom s) ≡ s
+state-there s = λ i. record { volatile = volatile-there (s .volatile) i; busy = s .busy }
+
 outcome-there : (n : ℕ) → n ≤ 14 → outcomeNumber (outcomeFrom n) ≡ n
 outcome-there n h = agree-at (λ m. outcomeNumber (outcomeFrom m)) (λ m. m) 15 refl n (omega arith)
 
-call-given : (c : List ℕ) (s : model.Volatile) (x : Call)
+call-given : (c : List ℕ) (s : busy.State) (x : Call)
     → calledOf (givenFrom (command c s x .reply) .reply) (command c s x .card) (givenFrom (command c s x .reply) .space) ≡ command c s x
 call-given c s x =
     let o = outcome-there (command c s x .reply .refusal) (let l = refusal-small c s x in omega arith) in
-    let v = volatile-there (command c s x .reply .state) in
+    let v = state-there (command c s x .reply .state) in
     λ i. record {
       card = command c s x .card;
       reply = record {
         refusal = o i;
+        kind = command c s x .reply .kind;
         size = command c s x .reply .size;
         state = v i;
         tries = command c s x .reply .tries;
@@ -59,9 +69,9 @@ call-given c s x =
       };
     }
 
-pub run-exists : (xs : List Call) (c : List ℕ) (s : Volatile) → (gs : List Given) × (e : List ℕ) × Run xs c s gs e
+pub run-exists : (xs : List Call) (c : List ℕ) (s : State) → (gs : List Given) × (e : List ℕ) × Run xs c s gs e
 run-exists [] c s = ([], c, none)
 run-exists (x ∷ xs) c s =
-    let u = command c (volatileOf s) x in
-    let r = run-exists xs (u .card) (volatileFrom (u .reply .state)) in
-    (givenFrom (u .reply) ∷ r .0, r .1, one-more (call-given c (volatileOf s) x) (r .2))
+    let u = command c (stateOf s) x in
+    let r = run-exists xs (u .card) (stateFrom (u .reply .state)) in
+    (givenFrom (u .reply) ∷ r .0, r .1, one-more (call-given c (stateOf s) x) (r .2))

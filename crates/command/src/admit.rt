@@ -2,13 +2,24 @@
 ghost use mathlib.Core.Path.{_≡_};
 ghost use Rattle.model.specs.At88sc1608.{at88sc1608};
 ghost use Rattle.model.specs.Single as model;
+ghost use mathlib.Core.Bool.{cond, not, _&&_};
+ghost use mathlib.Core.List.{[]};
+ghost use Prim.Native.Nat.{_≤_};
+ghost use lib.Dec.{ltb};
+ghost use Rattle.model.specs.Busy.{actsAlways};
+ghost use Rattle.model.specs.Record.{made};
+ghost use Rattle.laws.specs.BusyLaws.{fullAnswer};
 ghost use Rattle.access.specs.State.{activeOf, volatileOf};
+ghost use Rattle.busy.specs.TimedState.{stateOf};
 ghost use Rattle.record.specs.DecodedRecord.{decodedOf};
 ghost use Rattle.record.specs.RefusalNumber.{outcomeNumber};
 use access::rights::is_fuse_byte;
 use access::volatile::Active;
 use access::volatile::Volatile;
+use busy::State;
+use busy::is_ignored;
 use record::decoder::Decoded;
+use record::decoder::Head;
 use record::decoder::decode;
 use record::decoder::head_of;
 use record::kind::answer_length;
@@ -26,8 +37,8 @@ fn selector_in_range(active: Active) -> bool
     }
 }
 
-fn state_in_range(state: Volatile) -> bool
-    ensures { λ r. ⌜ r ≡ model.stateInRange at88sc1608 (volatileOf state) ⌝ }
+fn volatile_in_range(state: Volatile) -> bool
+    ensures { λ r. ⌜ r ≡ model.volatileInRange at88sc1608 (volatileOf state) ⌝ }
 {
     let zone = state.zone.0;
     if zone < 8 {
@@ -37,9 +48,19 @@ fn state_in_range(state: Volatile) -> bool
     false
 }
 
+fn state_in_range(state: State) -> bool
+    ensures { λ r. ⌜ r ≡ model.stateInRange at88sc1608 (stateOf state) ⌝ }
+{
+    let volatile = state.volatile;
+    if volatile_in_range(volatile) {
+        return state.busy <= 10;
+    }
+    false
+}
+
 // The checks of the card and the state.
-pub fn check(card: &[u8], state: Volatile) -> Outcome
-    ensures { λ r. ⌜ outcomeNumber r ≡ model.check (now (card .entry)) (volatileOf state) ⌝ }
+pub fn check(card: &[u8], state: State) -> Outcome
+    ensures { λ r. ⌜ outcomeNumber r ≡ model.check (now (card .entry)) (stateOf state) ⌝ }
 {
     if card.len() != CARD {
         return Outcome::Refused(Refusal::CardLength);
@@ -55,9 +76,20 @@ pub fn check(card: &[u8], state: Volatile) -> Outcome
     Outcome::Accepted
 }
 
+// How much is to be written in answer to a record with these first bytes: nothing where it is ignored.
+fn needed(busy: u8, head: Head) -> usize
+    requires { ⌜ head .kind ≤ 14 ⌝ }
+    ensures { λ r. ⌜ r ≡ cond (ltb 0 busy && not (actsAlways (head .kind))) 0 (fullAnswer at88sc1608 (made (head .kind) 0 (head .n) [])) ⌝ }
+{
+    if is_ignored(busy, head.kind) {
+        return 0;
+    }
+    answer_length(head.kind, head.n) as usize
+}
+
 // A refusal, or the record that the call carries out and its length.
-pub fn admit(card: &[u8], state: Volatile, record: &[u8], room: usize) -> Decoded
-    ensures { λ r. ⌜ decodedOf (now («record» .entry)) r ≡ model.admission (now (card .entry)) (volatileOf state) (now («record» .entry)) room ⌝ }
+pub fn admit(card: &[u8], state: State, record: &[u8], room: usize) -> Decoded
+    ensures { λ r. ⌜ decodedOf (now («record» .entry)) r ≡ model.admission (now (card .entry)) (stateOf state) (now («record» .entry)) room ⌝ }
 {
     if let Outcome::Refused(why) = check(card, state) {
         return Decoded::Refused(why);
@@ -69,7 +101,7 @@ pub fn admit(card: &[u8], state: Volatile, record: &[u8], room: usize) -> Decode
                 return Decoded::Refused(Refusal::BytesLeft);
             }
             let head = head_of(record);
-            if room < answer_length(head.kind, head.n) as usize {
+            if room < needed(state.busy, head) {
                 return Decoded::Refused(Refusal::NoSpace);
             }
             Decoded::Whole(kind, end)

@@ -1,11 +1,12 @@
-// The single command: one record on one card and its volatile state.
+// The single command: one record on one card and its state.
 ghost use mathlib.Core.Path.{_≡_};
 ghost use Rattle.model.specs.Call.{calling};
 ghost use Rattle.model.specs.Single as model;
-ghost use Rattle.access.specs.State.{volatileOf};
+ghost use Rattle.busy.specs.TimedState.{stateOf};
 ghost use Rattle.command.specs.Reply.{calledOf};
 use crate::admit::admit;
-use access::volatile::Volatile;
+use busy::State;
+use busy::is_ignored;
 use carry::carry_out;
 use record::decoder::Decoded;
 use record::decoder::head_of;
@@ -14,37 +15,51 @@ use record::refusal::Outcome;
 
 pub mod admit;
 
-// What a call gives back beside the response space: the tries are those left of the counter that the command used, 0 if it used none.
+// What a call gives back beside the response space. The kind is the record's, or that plus 128 where a busy card ignored it, and 0 with a
+// refusal; the tries are those left of the counter that the command used, 0 if it used none.
 pub struct Reply {
     pub outcome: Outcome,
+    pub kind: u8,
     pub size: usize,
-    pub state: Volatile,
+    pub state: State,
     pub tries: u8,
 }
 
-// One command on a card. A refusal hands the state back and changes nothing.
-pub fn command(card: &mut [u8], state: Volatile, record: &[u8], response: &mut [u8]) -> Reply
+// One command on a card. A refusal hands the state back and changes nothing; so does a record that a busy card ignores.
+pub fn command(card: &mut [u8], state: State, record: &[u8], response: &mut [u8]) -> Reply
     ensures { λ r. ⌜ calledOf r (now (card .exit)) (now (response .exit))
-        ≡ model.command (now (card .entry)) (volatileOf state) (calling (now («record» .entry)) (now (response .entry))) ⌝ }
+        ≡ model.command (now (card .entry)) (stateOf state) (calling (now («record» .entry)) (now (response .entry))) ⌝ }
 {
     let room = response.len();
     match admit(card, state, record, room) {
         Decoded::Refused(why) => Reply {
             outcome: Outcome::Refused(why),
+            kind: 0,
             size: 0,
             state,
             tries: 0,
         },
-        Decoded::Whole(kind, end) => {
+        Decoded::Whole(_, end) => {
             let head = head_of(record);
-            let length = answer_length(head.kind, head.n) as usize;
-            let report = carry_out(card, state, kind, record, end, response);
-            let after = report.state;
+            if is_ignored(state.busy, head.kind) {
+                return Reply {
+                    outcome: Outcome::Accepted,
+                    kind: head.kind + 128,
+                    size: 0,
+                    state,
+                    tries: 0,
+                };
+            }
+            let size = answer_length(head.kind, head.n) as usize;
+            let volatile = state.volatile;
+            let done = carry_out(card, volatile, state.busy, head, record, end, response);
+            let after = done.state;
             Reply {
                 outcome: Outcome::Accepted,
-                size: length,
+                kind: head.kind,
+                size,
                 state: after,
-                tries: report.tries,
+                tries: done.tries,
             }
         }
     }

@@ -13,7 +13,7 @@ use Rattle.model.specs.Call as calls
 use Rattle.model.specs.Refusal.{cardLength, fuseByte, stateOutOfRange}
 use Rattle.model.specs.Session.{Ran, run}
 use Rattle.model.specs.Single.{isFuseByte, checkOf, check, command}
-use Rattle.model.specs.Volatile.{Volatile}
+use Rattle.model.specs.Busy.{State}
 use Rattle.exports.specs.Exports.{result, runCall, toldRun, exportedRun, commandResult, commandCall, toldCommand, exportedCommand}
 use Rattle.exports.specs.Lengths.{response-small, run-small}
 use Rattle.exports.specs.StateBytes.{isState, stateOf, stateAfter}
@@ -40,11 +40,11 @@ not-accepted c b e = rw (state-range b, e) (go (eqb (length c) cardSize) (isFuse
     go true false = (4, refl)
     go false f = (10, refl)
 
-module _ (c b sent space : List ℕ) (v : Volatile) (read : v ≡ stateOf b) (x : Called Volatile) (called : x ≡ command c v (calling sent space)) where
+module _ (c b sent space : List ℕ) (v : State) (read : v ≡ stateOf b) (x : Called State) (called : x ≡ command c v (calling sent space)) where
   same : x ≡ command c (stateOf b) (calling sent space)
-  same = called ∙ ap (λ (s : Volatile). command c s (calling sent space)) read
+  same = called ∙ ap (λ (s : State). command c s (calling sent space)) read
 
-  pub accepted-long : x .reply .refusal ≡ 0 → length b ≡ 4
+  pub accepted-long : x .reply .refusal ≡ 0 → length b ≡ 5
   unfolding calls.admission calls.command
   accepted-long e = state-long b (go (isState b) refl)
     where
@@ -52,16 +52,16 @@ module _ (c b sent space : List ℕ) (v : Volatile) (read : v ≡ stateOf b) (x 
       go true q = refl
       go false q =
           let w = not-accepted c b q in
-          let z : suc (w .0) ≡ 0 = sym (ap (λ (y : Called Volatile). y .reply .refusal) same ∙ rw (w .1)) ∙ e in
+          let z : suc (w .0) ≡ 0 = sym (ap (λ (y : Called State). y .reply .refusal) same ∙ rw (w .1)) ∙ e in
           absurd (let f : ⊥ = omega arith in f)
 
   pub response-fits : Bytes sent → x .reply .size ≤ 2 ^ 32
   response-fits h =
-      let e = ap (λ (y : Called Volatile). y .reply .size) called in
+      let e = ap (λ (y : Called State). y .reply .size) called in
       let s = response-small c v (calling sent space) h in
       omega arith
 
-  pub command-told : (r : ℕ) (b′ : List ℕ) → r ≡ commandResult (x .reply .refusal) (x .reply .size) (x .reply .tries)
+  pub command-told : (r : ℕ) (b′ : List ℕ) → r ≡ commandResult (x .reply .refusal) (x .reply .size) (x .reply .tries) (x .reply .kind)
       → b′ ≡ stateAfter (x .reply .refusal) (x .reply .state) b
       → commandCall r (x .card) b′ (x .reply .space) ≡ exportedCommand c b sent space
   command-told r b′ e w = (λ i. commandCall (e i) (x .card) (w i) (x .reply .space)) ∙ ap (toldCommand b) same

@@ -5,7 +5,7 @@ use Rattle.model.specs.Call.{Called, calling}
 use Rattle.model.specs.Log.{Found, missing, located}
 use Rattle.model.specs.Session.{Ran, run}
 use Rattle.model.specs.Single.{command}
-use Rattle.model.specs.Volatile.{Volatile}
+use Rattle.model.specs.Busy.{State}
 use Rattle.exports.specs.StateBytes.{stateOf, stateAfter}
 
 -- the refusal's number, or 0, and 2^8 times a length
@@ -32,9 +32,9 @@ exportedRun session log = toldRun (run session log)
 
 -- ---- at88sc1608_command
 
--- the refusal's number, or 0, 2^8 times the response's length and 2^24 times the tries left
-abbrev pub commandResult : ℕ → ℕ → ℕ → ℕ
-commandResult refusal n tries = refusal + 2 ^ 8 * n + 2 ^ 24 * tries
+-- the refusal's number, or 0, 2^8 times the response's length, 2^24 times the tries left and 2^32 times the kind that is answered
+abbrev pub commandResult : ℕ → ℕ → ℕ → ℕ → ℕ
+commandResult refusal n tries kind = refusal + 2 ^ 8 * n + 2 ^ 24 * tries + 2 ^ 32 * kind
 
 -- the result, and the card, the state's bytes and the response space at exit
 pub record CommandCall : Type 0 where
@@ -47,9 +47,9 @@ abbrev pub commandCall : ℕ → List ℕ → List ℕ → List ℕ → CommandC
 commandCall r card state response = record { result = r; card = card; state = state; response = response }
 
 -- what the model's call tells of them, for the state's bytes at entry
-abbrev pub toldCommand : List ℕ → Called Volatile → CommandCall
+abbrev pub toldCommand : List ℕ → Called State → CommandCall
 toldCommand state x =
-    commandCall (commandResult (x .reply .refusal) (x .reply .size) (x .reply .tries)) (x .card)
+    commandCall (commandResult (x .reply .refusal) (x .reply .size) (x .reply .tries) (x .reply .kind)) (x .card)
     (stateAfter (x .reply .refusal) (x .reply .state) state) (x .reply .space)
 
 -- of a card, a state's bytes, a record and a response space

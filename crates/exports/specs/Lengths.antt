@@ -8,22 +8,27 @@ use native.Mathlib.Nat.{le-of-suc-le-suc}
 use native.Mathlib.Omega.{arith}
 use lib.ListN.{length}
 use Rattle.model.specs.Sizes.{leastLog, mostRecords}
-use Rattle.model.specs.Lists.{Bytes}
-use Rattle.laws.specs.BoolLaws.{and-left, and-right}
-use Rattle.model.specs.At88sc1608.{at88sc1608}
+use Rattle.model.specs.Lists.{at, Bytes}
+use Rattle.laws.specs.BoolLaws.{choice, and-left, and-right}
+use Rattle.model.specs.At88sc1608.{at88sc1608, counterAt, attemptsAt}
 use Rattle.model.specs.Call.{Decoded, refused, whole, Call}
 use Rattle.model.specs.Call as calls
 use Rattle.laws.specs.CallLaws.{admitted}
-use Rattle.model.specs.Command.{Command}
-use Rattle.laws.specs.Effects.{answer-length}
+use Rattle.model.specs.Command.{Command, powerCycle, reset, select, readZone, writeZone, readConfiguration, writeConfiguration, readFuses, writeFuses}
+use Rattle.model.specs.Command.{verifyPassword, beginAuthentication, verifyAuthentication}
+use Rattle.model.specs.Instruction.{Instruction, issue, wait, poll}
+use Rattle.model.specs.Busy.{State, ignores, answeredKind}
+use Rattle.laws.specs.BusyLaws.{given-answer, given-most, triesUsed}
+use Rattle.laws.specs.Effects.{triesAfter}
+use Rattle.laws.specs.Sane.{good-check}
 use Rattle.model.specs.Log.{Entry, lengthAt, nextEntry, entryOk, entriesOk, entryPlace, LaidOut, countOf, offsetOf, trailerOk, valid, find, located}
 use Rattle.model.specs.Record.{decode}
 use Rattle.model.specs.Session.{run}
-use Rattle.model.specs.Single.{check, apply, admit, command}
-use Rattle.model.specs.Volatile.{Volatile}
+use Rattle.model.specs.Single.{check, act, admit, command}
 use Rattle.properties.specs.LogLaws.{entered, trailed, answered}
-use Rattle.properties.specs.Written.{fits-small, entries-small, log-length}
+use Rattle.properties.specs.Written.{fits-small, entry-small, entries-small, log-length}
 use Rattle.properties.specs.SessionAcceptance.{accepted-run, run-accepted}
+use Rattle.properties.specs.TriesLeft.{at-most-eight, given-out}
 use Rattle.properties.specs.Refused.{refused-run}
 use Rattle.properties.specs.ReadBack.{laid-out}
 use Rattle.properties.specs.SessionLaws.{decode-logs}
@@ -31,24 +36,56 @@ use Rattle.properties.specs.SessionLaws.{decode-logs}
 -- ---- a response
 
 -- of a record of bytes
-pub response-small : (c : List ℕ) (s : Volatile) (x : Call) → Bytes (x .sent) → command c s x .reply .size ≤ 256
+pub response-small : (c : List ℕ) (s : State) (x : Call) → Bytes (x .sent) → command c s x .reply .size ≤ 256
 unfolding calls.command
 response-small c s x b = go (admit c s x) refl
   where
-    go : (d : Decoded Command) → admit c s x ≡ d → calls.carried check decode apply c s (x .space) d .reply .size ≤ 256
+    go : (d : Decoded Instruction) → admit c s x ≡ d → calls.carried check decode act answeredKind c s (x .space) d .reply .size ≤ 256
     go (refused n) e = omega arith
     go (whole k n) e =
-        let a = admitted check decode apply c s x k n e in
-        rw (answer-length at88sc1608 c s k) (fits-small _ _ (decode-logs (x .sent) b k n (a .decodes) .1))
+        let a = admitted check decode act c s x k n e in
+        let f = fits-small _ _ (decode-logs (x .sent) b k n (a .decodes) .1) in
+        let m = given-most at88sc1608 s k in
+        rw (given-answer at88sc1608 c s k) (omega arith)
+
+-- the tries are at most eight
+tries-after : (k : Command) (c : List ℕ) → triesAfter at88sc1608 k c ≤ 8
+tries-after powerCycle c = omega arith
+tries-after reset c = omega arith
+tries-after (select z) c = omega arith
+tries-after (readZone a n) c = omega arith
+tries-after (writeZone a xs) c = omega arith
+tries-after (readConfiguration a n) c = omega arith
+tries-after (writeConfiguration a xs) c = omega arith
+tries-after readFuses c = omega arith
+tries-after writeFuses c = omega arith
+tries-after (verifyPassword k xs) c = at-most-eight (at c (counterAt k))
+tries-after beginAuthentication c = at-most-eight (at c attemptsAt)
+tries-after (verifyAuthentication v xs) c = omega arith
+
+tries-used : (i : Instruction) (c : List ℕ) → triesUsed at88sc1608 i c ≤ 8
+tries-used (issue k) c = tries-after k c
+tries-used (wait n) c = omega arith
+tries-used poll c = omega arith
+
+pub tries-small : (c : List ℕ) (s : State) (x : Call) → command c s x .reply .tries ≤ 8
+unfolding calls.command
+tries-small c s x = go (admit c s x) refl
+  where
+    go : (d : Decoded Instruction) → admit c s x ≡ d → calls.carried check decode act answeredKind c s (x .space) d .reply .tries ≤ 8
+    go (refused n) e = omega arith
+    go (whole k n) e =
+        let g = good-check c s (admitted check decode act c s x k n e .checks) in
+        rw (given-out c s k (g .fit .long)) (choice (λ m. m ≤ 8) (ignores s k) 0 _ (omega arith) (tries-used k (act c s k .card)))
 
 -- ---- an answer of a log
 
 module _ (l : List ℕ) (end : ℕ) where
   place-small : (n i : ℕ) → entriesOk n l i end ≡ true → (k : ℕ) → k < n → (lengthAt l (entryPlace k l i) ≤ 256) × (entryPlace k l i ≤ i + 259 * k)
   place-small zero i e k h = absurd (let z : ⊥ = omega arith in z)
-  place-small (suc n) i e zero h = (fits-small _ _ (entered l i end (and-left (entryOk l i end) _ e) .fits), omega arith)
+  place-small (suc n) i e zero h = (entry-small _ _ (entered l i end (and-left (entryOk l i end) _ e) .fits), omega arith)
   place-small (suc n) i e (suc k) h =
-      let f = fits-small _ _ (entered l i end (and-left (entryOk l i end) _ e) .fits) in
+      let f = entry-small _ _ (entered l i end (and-left (entryOk l i end) _ e) .fits) in
       let p = place-small n (nextEntry l i) (and-right (entryOk l i end) _ e) k (le-of-suc-le-suc h) in
       (p .0, let q = p .1 in omega arith)
 

@@ -1,12 +1,13 @@
--- The four bytes of a volatile state: the zone; 0 where no password is active, 1 where a selector is; that selector, 0 where
--- there is none; the authentication, 0 idle, 1 begun, 2 granted.
+-- The five bytes of a state: the zone; 0 where no password is active, 1 where a selector is; that selector, 0 where there is none;
+-- the authentication, 0 idle, 1 begun, 2 granted; the busy time.
 use Prim.Native.Nat.{ℕ, zero, suc}
 use mathlib.Core.Bool.{Bool, cond, _&&_}
 use mathlib.Core.List.{List, [], _∷_}
-use lib.Dec.{ltb, eqb}
+use lib.Dec.{ltb, leb, eqb}
 use lib.ListN.{length}
 use Rattle.model.specs.Lists.{at}
-use Rattle.model.specs.Volatile.{Volatile, Active, none, selector, Authentication, idle, begun, granted}
+use Rattle.model.specs.Busy.{State, timed, writeTime}
+use Rattle.model.specs.Volatile.{Active, none, selector, Authentication, idle, begun, granted}
 
 -- ---- a state as bytes
 
@@ -25,9 +26,11 @@ authenticationByte idle = 0
 authenticationByte begun = 1
 authenticationByte granted = 2
 
--- all four
-abbrev pub stateBytes : Volatile → List ℕ
-stateBytes v = v .zone ∷ activeFlag (v .active) ∷ activeSelector (v .active) ∷ authenticationByte (v .authentication) ∷ []
+-- all five
+abbrev pub stateBytes : State → List ℕ
+stateBytes s =
+    let v = s .volatile in
+    v .zone ∷ activeFlag (v .active) ∷ activeSelector (v .active) ∷ authenticationByte (v .authentication) ∷ s .busy ∷ []
 
 -- ---- bytes as a state
 
@@ -37,7 +40,7 @@ activeInRange flag k = cond (eqb flag 0) (eqb k 0) (eqb flag 1 && ltb k 16)
 
 -- bytes that stand for a state
 unfoldable pub isState : List ℕ → Bool
-isState b = eqb (length b) 4 && (ltb (at b 0) 8 && (ltb (at b 3) 3 && activeInRange (at b 1) (at b 2)))
+isState b = eqb (length b) 5 && (ltb (at b 0) 8 && (ltb (at b 3) 3 && (leb (at b 4) writeTime && activeInRange (at b 1) (at b 2))))
 
 -- what they then stand for
 abbrev pub activeRead : ℕ → ℕ → Active
@@ -47,17 +50,19 @@ abbrev pub authenticationRead : ℕ → Authentication
 authenticationRead n = cond (eqb n 0) idle (cond (eqb n 1) begun granted)
 
 -- a state out of range, which every call refuses: no card has a zone 255
-abbrev pub noState : Volatile
-noState = record { zone = 255; active = none; authentication = idle }
+abbrev pub noState : State
+noState = timed (record { zone = 255; active = none; authentication = idle }) 0
 
 -- the state that bytes stand for; all others are read as a state out of range
-unfoldable pub stateOf : List ℕ → Volatile
+unfoldable pub stateOf : List ℕ → State
 stateOf b =
-    cond (isState b) (record { zone = at b 0; active = activeRead (at b 1) (at b 2); authentication = authenticationRead (at b 3) }) noState
+    cond (isState b)
+    (timed (record { zone = at b 0; active = activeRead (at b 1) (at b 2); authentication = authenticationRead (at b 3) }) (at b 4))
+    noState
 
 -- ---- the bytes after a call
 
 -- rewritten where its refusal is 0, kept where it was refused
-abbrev pub stateAfter : ℕ → Volatile → List ℕ → List ℕ
-stateAfter zero v b = stateBytes v
-stateAfter (suc n) v b = b
+abbrev pub stateAfter : ℕ → State → List ℕ → List ℕ
+stateAfter zero s b = stateBytes s
+stateAfter (suc n) s b = b

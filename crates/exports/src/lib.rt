@@ -26,7 +26,8 @@ pub extern "C" fn at88sc1608_run(session: &[u8], log: &mut [u8]) -> u64
     result_number(outcome, ran.size)
 }
 
-// One command: the refusal's number, or 0, 2^8 times the response's length and 2^24 times the tries left.
+// One command: the refusal's number, or 0, 2^8 times the response's length, 2^24 times the tries left and 2^32 times the kind that is
+// answered.
 #[no_mangle]
 pub extern "C" fn at88sc1608_command(
     card: &mut [u8],
@@ -42,7 +43,7 @@ pub extern "C" fn at88sc1608_command(
     let outcome = reply.outcome;
     let after = reply.state;
     write_state(state, outcome, after);
-    command_number(outcome, reply.size, reply.tries)
+    command_number(outcome, reply.size, reply.tries, reply.kind)
 }
 
 // An answer of a log, from 0: the refusal's number, or 0, 2^8 times its length and 2^40 times where it begins.

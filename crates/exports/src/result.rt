@@ -18,15 +18,16 @@ pub fn result_number(outcome: Outcome, length: usize) -> u64
     refusal + 256 * long
 }
 
-// helper: the refusal's number, or 0, with 2^8 times a length and 2^24 times the tries left.
-pub fn command_number(outcome: Outcome, length: usize, tries: u8) -> u64
+// helper: the refusal's number, or 0, with 2^8 times a length, 2^24 times the tries left and 2^32 times the kind that is answered.
+pub fn command_number(outcome: Outcome, length: usize, tries: u8, kind: u8) -> u64
     requires { ⌜ length ≤ 2 ^ 32 ⌝ }
-    ensures { λ r. ⌜ r ≡ commandResult (outcomeNumber outcome) length tries ⌝ }
+    ensures { λ r. ⌜ r ≡ commandResult (outcomeNumber outcome) length tries kind ⌝ }
 {
     let refusal = outcome_number(outcome) as u64;
     let long = length as u64;
     let left = tries as u64;
-    refusal + 16777216 * left + 256 * long
+    let answered = kind as u64;
+    refusal + 4294967296 * answered + 16777216 * left + 256 * long
 }
 
 // helper: 2^8 times an answer's length and 2^40 times where it begins.

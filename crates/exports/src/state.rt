@@ -1,7 +1,8 @@
-// The volatile state as four bytes.
+// The state of a card as five bytes.
 ghost use mathlib.Core.Path.{_≡_};
 ghost use lib.ListN.{length};
-ghost use Rattle.access.specs.State.{activeOf, authenticationOf, volatileOf};
+ghost use Rattle.access.specs.State.{activeOf, authenticationOf};
+ghost use Rattle.busy.specs.TimedState as timed;
 ghost use Rattle.record.specs.RefusalNumber.{outcomeNumber};
 ghost use Rattle.exports.specs.StateBytes.{activeFlag, activeSelector, authenticationByte, activeInRange, isState, activeRead, authenticationRead};
 ghost use Rattle.exports.specs.StateBytes.{stateOf, stateAfter};
@@ -9,6 +10,7 @@ use access::volatile::Active;
 use access::volatile::Authentication;
 use access::volatile::Volatile;
 use access::volatile::Zone;
+use busy::State;
 use record::refusal::Outcome;
 
 fn active_flag(active: Active) -> u8
@@ -56,13 +58,16 @@ fn active_in_range(flag: u8, selector: u8) -> bool
 fn is_state(bytes: &[u8]) -> bool
     ensures { λ r. ⌜ r ≡ isState (now (bytes .entry)) ⌝ }
 {
-    if bytes.len() != 4 {
+    if bytes.len() != 5 {
         return false;
     }
     if 8 <= bytes[0] {
         return false;
     }
     if 3 <= bytes[3] {
+        return false;
+    }
+    if 10 < bytes[4] {
         return false;
     }
     active_in_range(bytes[1], bytes[2])
@@ -90,38 +95,46 @@ fn authentication_read(byte: u8) -> Authentication
 }
 
 // The state that bytes stand for, or one out of range, which every call refuses.
-pub fn read_state(bytes: &[u8]) -> Volatile
-    ensures { λ r. ⌜ volatileOf r ≡ stateOf (now (bytes .entry)) ⌝ }
+pub fn read_state(bytes: &[u8]) -> State
+    ensures { λ r. ⌜ timed.stateOf r ≡ stateOf (now (bytes .entry)) ⌝ }
 {
     if !is_state(bytes) {
-        return Volatile {
-            zone: Zone(255),
-            active: Active::None,
-            authentication: Authentication::Idle,
+        return State {
+            volatile: Volatile {
+                zone: Zone(255),
+                active: Active::None,
+                authentication: Authentication::Idle,
+            },
+            busy: 0,
         };
     }
     let active = active_read(bytes[1], bytes[2]);
     let authentication = authentication_read(bytes[3]);
-    Volatile {
-        zone: Zone(bytes[0]),
-        active,
-        authentication,
+    State {
+        volatile: Volatile {
+            zone: Zone(bytes[0]),
+            active,
+            authentication,
+        },
+        busy: bytes[4],
     }
 }
 
 // helper: the state after an accepted call; a refused one leaves the bytes.
-pub fn write_state(bytes: &mut [u8], outcome: Outcome, state: Volatile)
-    requires { ⌜ (outcomeNumber outcome ≡ 0 → length (now bytes) ≡ 4) ⌝ }
-    ensures { λ _. ⌜ now (bytes .exit) ≡ stateAfter (outcomeNumber outcome) (volatileOf state) (now (bytes .entry)) ⌝ }
+pub fn write_state(bytes: &mut [u8], outcome: Outcome, state: State)
+    requires { ⌜ (outcomeNumber outcome ≡ 0 → length (now bytes) ≡ 5) ⌝ }
+    ensures { λ _. ⌜ now (bytes .exit) ≡ stateAfter (outcomeNumber outcome) (timed.stateOf state) (now (bytes .entry)) ⌝ }
 {
     if let Outcome::Refused(_) = outcome {
         return;
     }
-    let zone = state.zone.0;
-    let active = state.active;
-    let authentication = state.authentication;
+    let volatile = state.volatile;
+    let zone = volatile.zone.0;
+    let active = volatile.active;
+    let authentication = volatile.authentication;
     bytes[0] = zone;
     bytes[1] = active_flag(active);
     bytes[2] = active_selector(active);
     bytes[3] = authentication_byte(authentication);
+    bytes[4] = state.busy;
 }

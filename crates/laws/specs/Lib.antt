@@ -15,4 +15,5 @@ pub mod AccessLaws
 pub mod ReadLaws
 pub mod WordLaws
 pub mod Effects
+pub mod BusyLaws
 pub mod Sane

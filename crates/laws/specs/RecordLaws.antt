@@ -5,7 +5,7 @@ use mathlib.Core.List.{List}
 use mathlib.Core.Path.{_≡_, refl, sym, ap, _∙_}
 use native.Mathlib.Nat.{le-refl}
 use native.Mathlib.Omega.{arith}
-use borrow.Author.Tests.{ltb-false, leb-true, eqb-false, not-true, not-false, ne-eqb, le-ltb}
+use borrow.Author.Tests.{ltb-false, leb-true, eqb-false, not-false, ne-eqb, le-ltb}
 use lib.Dec.{ltb, leb, eqb}
 use lib.ListN.{length, take, drop, length-take, length-drop}
 use lib.Seq.{length-take-le, getD-take, take-add, drop-at, take-all}
@@ -16,6 +16,7 @@ use Rattle.model.specs.Call.{whole}
 use Rattle.laws.specs.CallLaws.{past}
 use Rattle.model.specs.Command.{Command, powerCycle, reset, select, readZone, writeZone, readConfiguration, writeConfiguration, readFuses, writeFuses}
 use Rattle.model.specs.Command.{verifyPassword, beginAuthentication, verifyAuthentication}
+use Rattle.model.specs.Instruction.{Instruction, issue, wait, poll, kindOf}
 use Rattle.model.specs.Record.{Kind, kinds, known, fixedFields, inRange, dataLength, made, dataAt, recordLength, decode}
 
 -- the data of a record
@@ -23,14 +24,14 @@ abbrev pub dataOf : List ℕ → List ℕ
 dataOf part = take (dataLength (at part 0) (at part 2)) (drop (dataAt part) part)
 
 -- a record that is accepted
-pub record Accepted (part : List ℕ) (k : Command) (n : ℕ) : Type 0 where
+pub record Accepted (part : List ℕ) (k : Instruction) (n : ℕ) : Type 0 where
   pub kind : known (at part 0) ≡ true
   pub fields : inRange (at part 0) (at part 1) (at part 2) ≡ true
   pub within : recordLength part ≤ length part
   pub command : made (at part 0) (at part 1) (at part 2) (dataOf part) ≡ k
   pub size : recordLength part ≡ n
 
-pub accepted : (part : List ℕ) (k : Command) (n : ℕ) → decode part ≡ whole k n → Accepted part k n
+pub accepted : (part : List ℕ) (k : Instruction) (n : ℕ) → decode part ≡ whole k n → Accepted part k n
 unfolding decode
 accepted part k n e =
     let p₁ = past (eqb (length part) 0) _ _ k n e in
@@ -48,10 +49,10 @@ accepted part k n e =
     }
 
 -- the length of an accepted record lies within the part, and is not 0
-pub decode-within : (part : List ℕ) (k : Command) (n : ℕ) → decode part ≡ whole k n → (1 ≤ n) × (n ≤ length part)
+pub decode-within : (part : List ℕ) (k : Instruction) (n : ℕ) → decode part ≡ whole k n → (1 ≤ n) × (n ≤ length part)
 decode-within part k n e = let a = accepted part k n e in omega arith
 
-pub length-data : (part : List ℕ) (k : Command) (n : ℕ) → Accepted part k n → length (dataOf part) ≡ dataLength (at part 0) (at part 2)
+pub length-data : (part : List ℕ) (k : Instruction) (n : ℕ) → Accepted part k n → length (dataOf part) ≡ dataLength (at part 0) (at part 2)
 length-data part k n a =
     length-take-le _ (drop (dataAt part) part) (let w = a .within in simp length-drop (omega arith))
 
@@ -70,15 +71,21 @@ Fields (verifyPassword k xs) = (k < 16) × (length xs ≡ 3)
 Fields beginAuthentication = Unit {0}
 Fields (verifyAuthentication v xs) = length xs ≡ 8
 
+-- and those of an instruction
+abbrev pub Ranged : Instruction → Type 0
+Ranged (issue k) = Fields k
+Ranged (wait n) = (1 ≤ n) × (n ≤ 255)
+Ranged poll = Unit {0}
+
 module _ (a n : ℕ) (xs : List ℕ) where
   read-count : (t : Bool) → eqb n 0 ≡ t → 1 ≤ cond t 256 n
   read-count true e = omega arith
   read-count false e = let h : n ≡ 0 → ⊥ = eqb-false n 0 e in omega arith
 
-  made-fields : (kind : ℕ) → known kind ≡ true → inRange kind a n ≡ true → length xs ≡ dataLength kind n → Fields (made kind a n xs)
+  made-ranged : (kind : ℕ) → known kind ≡ true → inRange kind a n ≡ true → length xs ≡ dataLength kind n → Ranged (made kind a n xs)
   unfolding kinds inRange dataLength made
-  made-fields =
-      each-kind (λ kind. inRange kind a n ≡ true → length xs ≡ dataLength kind n → Fields (made kind a n xs))
+  made-ranged =
+      each-kind (λ kind. inRange kind a n ≡ true → length xs ≡ dataLength kind n → Ranged (made kind a n xs))
       (λ r l. tt)
       (λ r l. tt)
       (λ r l. omega (arith, leb-true a 7 r))
@@ -100,15 +107,29 @@ module _ (a n : ℕ) (xs : List ℕ) where
       (λ r l. (omega (arith, leb-true a 15 r), l))
       (λ r l. tt)
       (λ r l. l)
+      (λ r l. omega (arith, leb-true 1 a (and-left (leb 1 a) _ r), leb-true a 255 (and-right (leb 1 a) _ r)))
+      (λ r l. tt)
 
-pub decode-fields : (part : List ℕ) (k : Command) (n : ℕ) → decode part ≡ whole k n → Fields k
-decode-fields part k n e =
+pub decode-ranged : (part : List ℕ) (k : Instruction) (n : ℕ) → decode part ≡ whole k n → Ranged k
+decode-ranged part k n e =
     let a = accepted part k n e in
-    rw (a .command) at (made-fields (at part 1) (at part 2) (dataOf part) (at part 0) (a .kind) (a .fields) (length-data part k n a))
+    rw (a .command) at (made-ranged (at part 1) (at part 2) (dataOf part) (at part 0) (a .kind) (a .fields) (length-data part k n a))
+
+-- its first byte is the kind of its instruction
+made-kind : (a n : ℕ) (xs : List ℕ) (kind : ℕ) → known kind ≡ true → kindOf (made kind a n xs) ≡ kind
+unfolding kinds made
+made-kind a n xs =
+    each-kind (λ kind. kindOf (made kind a n xs) ≡ kind)
+    refl refl refl refl refl refl refl refl refl refl refl refl refl refl
+
+pub decode-kind : (part : List ℕ) (k : Instruction) (n : ℕ) → decode part ≡ whole k n → kindOf k ≡ at part 0
+decode-kind part k n e =
+    let a = accepted part k n e in
+    ap kindOf (sym (a .command)) ∙ made-kind (at part 1) (at part 2) (dataOf part) (at part 0) (a .kind)
 
 -- ---- a record's own bytes
 
-pub decode-whole : (part : List ℕ) (k : Command) (n : ℕ) → Accepted part k n → decode part ≡ whole k n
+pub decode-whole : (part : List ℕ) (k : Instruction) (n : ℕ) → Accepted part k n → decode part ≡ whole k n
 unfolding decode
 decode-whole part k n a =
     let w = a .within in
@@ -145,6 +166,8 @@ module _ (a n a′ n′ : ℕ) where
       (λ p q. rw (p (omega arith)) (record { range = refl; size = refl; command = λ xs. refl }))
       (λ p q. record { range = refl; size = refl; command = λ xs. refl })
       (λ p q. rw (p (omega arith)) (record { range = refl; size = refl; command = λ xs. refl }))
+      (λ p q. rw (p (omega arith)) (record { range = refl; size = refl; command = λ xs. refl }))
+      (λ p q. record { range = refl; size = refl; command = λ xs. refl })
 
 front-part : (i n : ℕ) (l : List ℕ) → i + n ≤ length l → take n (drop i (take (i + n) l)) ≡ take n (drop i l)
 front-part i n l h =
@@ -153,7 +176,7 @@ front-part i n l h =
     ∙ take-all n (take n (drop i l)) (let e = length-take n (drop i l) in omega arith)
 
 -- the bytes of an accepted record alone give the same record
-pub decode-front : (part : List ℕ) (k : Command) (n : ℕ) → decode part ≡ whole k n → decode (take n part) ≡ whole k n
+pub decode-front : (part : List ℕ) (k : Instruction) (n : ℕ) → decode part ≡ whole k n → decode (take n part) ≡ whole k n
 decode-front part k n e =
     decode-whole own k n
     (record {
@@ -201,13 +224,13 @@ pub fixed-small : (kind : ℕ) → fixedFields kind ≤ 2
 unfolding kinds fixedFields
 fixed-small =
     each-row (λ (r : Kind). r .fixed ≤ 2)
-    (omega arith) (omega arith) (omega arith) (omega arith) (omega arith) (omega arith)
-    (omega arith) (omega arith) (omega arith) (omega arith) (omega arith) (omega arith)
+    (omega arith) (omega arith) (omega arith) (omega arith) (omega arith) (omega arith) (omega arith)
+    (omega arith) (omega arith) (omega arith) (omega arith) (omega arith) (omega arith) (omega arith)
 
 pub data-small : (kind n : ℕ) → n < 256 → dataLength kind n < 256
 unfolding kinds dataLength
 data-small kind n h =
     each-row (λ (r : Kind). r .follow n < 256)
     (omega arith) (omega arith) (omega arith) (omega arith) h (omega arith)
-    h (omega arith) (omega arith) (omega arith) (omega arith) (omega arith)
+    h (omega arith) (omega arith) (omega arith) (omega arith) (omega arith) (omega arith) (omega arith)
     kind

@@ -3,9 +3,9 @@
 use Prim.Native.Nat.{ℕ, _≤_, _<_, _/_}
 use mathlib.Core.Bool.{true, false, not, _&&_}
 use mathlib.Core.List.{List}
-use mathlib.Core.Path.{_≡_, refl, sym, ap, _∙_}
+use mathlib.Core.Path.{_≡_, refl, sym, ap, subst, _∙_}
 use native.Mathlib.Omega.{arith}
-use borrow.Author.Tests.{ltb-true, eqb-true, not-false, lt-ltb, eq-eqb}
+use borrow.Author.Tests.{ltb-true, leb-true, eqb-true, not-false, lt-ltb, le-leb, eq-eqb}
 use lib.Bits.{bitAnd, and-le-l}
 use lib.Dec.{ltb, eqb}
 use lib.ListN.{length, set, length-set}
@@ -25,8 +25,11 @@ use Rattle.model.specs.At88sc1608.{at88sc1608, fuses, registerOf, mayWrite, mer
 use Rattle.model.specs.Apply.{rules, kept}
 use Rattle.model.specs.Apply as any
 use Rattle.model.specs.Record.{decode}
-use Rattle.laws.specs.RecordLaws.{Fields, decode-fields}
-use Rattle.model.specs.Single.{isFuseByte, stateInRange, checkOf, check, apply, final}
+use Rattle.laws.specs.RecordLaws.{Fields, Ranged, decode-ranged}
+use Rattle.model.specs.Instruction.{Instruction}
+use Rattle.model.specs.Busy.{State, writeTime, answeredKind}
+use Rattle.laws.specs.BusyLaws.{act-keeps, act-time}
+use Rattle.model.specs.Single.{isFuseByte, volatileInRange, stateInRange, checkOf, check, act, final}
 use Rattle.laws.specs.Effects.{carried, Change, writes, fills, spends, renews, blows, changes, Move, stays, powers, resets, selects, opens, closes}
 use Rattle.laws.specs.Effects.{begins, grants, denies, moves}
 
@@ -100,13 +103,13 @@ module _ (D : Device) where
 
     -- the state stays in range, where the zones and selectors of commands are
     pub state-range : (Q : Command → Type 0) → ((z : ℕ) → Q (select z) → z < D .zones) → ((j : ℕ) (xs : List ℕ) → Q (verifyPassword j xs) → j < D .selectors)
-        → (c : List ℕ) (s : Volatile) (k : Command) → Q k → stateInRange D s ≡ true → stateInRange D (any.apply D c s k .report .state) ≡ true
+        → (c : List ℕ) (s : Volatile) (k : Command) → Q k → volatileInRange D s ≡ true → volatileInRange D (any.apply D c s k .report .state) ≡ true
     state-range Q zone-fits selector-fits c s k q h = go k (any.apply D c s k .report .state) q (moves D c s k)
       where
         zone-in : ltb (s .zone) (D .zones) ≡ true
         zone-in = and-left _ _ h
 
-        go : (k : Command) (t : Volatile) → Q k → Move D c s k t → stateInRange D t ≡ true
+        go : (k : Command) (t : Volatile) → Q k → Move D c s k t → volatileInRange D t ≡ true
         go k t f stays = h
         go k t f powers = rw (lt-ltb 0 (D .zones) (sound .has-zone))
         go k t f resets = rw zone-in
@@ -159,33 +162,60 @@ sound =
       has-zone = omega arith;
     }
 
--- a card and a state that pass the checks
-pub record Good (c : List ℕ) (s : Volatile) : Type 0 where
+-- a card and a volatile state that pass the checks
+pub record Fit (c : List ℕ) (v : Volatile) : Type 0 where
   pub long : length c ≡ cardSize
   pub stage : isFuseByte (at c fuseAt) ≡ true
-  pub range : stateInRange at88sc1608 s ≡ true
+  pub range : volatileInRange at88sc1608 v ≡ true
 
-pub check-good : (c : List ℕ) (s : Volatile) → Good c s → check c s ≡ 0
+-- and with a busy time that does
+pub record Good (c : List ℕ) (s : State) : Type 0 where
+  pub fit : Fit c (s .volatile)
+  pub time : s .busy ≤ writeTime
+
+pub check-good : (c : List ℕ) (s : State) → Good c s → check c s ≡ 0
 unfolding checkOf
-check-good c s g = rw (eq-eqb _ _ (g .long), g .stage, g .range)
+check-good c s g = rw (eq-eqb _ _ (g .fit .long), g .fit .stage, g .fit .range, le-leb _ _ (g .time))
 
-pub good-check : (c : List ℕ) (s : Volatile) → check c s ≡ 0 → Good c s
+pub good-check : (c : List ℕ) (s : State) → check c s ≡ 0 → Good c s
 unfolding checkOf
 good-check c s e =
     let p₁ = clear (not (eqb (length c) cardSize)) 10 _ e in
     let p₂ = clear (not (isFuseByte (at c fuseAt))) 4 _ (p₁ .1) in
     let p₃ = clear (not (stateInRange at88sc1608 s)) 11 0 (p₂ .1) in
-    record { long = eqb-true _ _ (not-false _ (p₁ .0)); stage = not-false _ (p₂ .0); range = not-false _ (p₃ .0) }
-
--- a command with its fields in range leaves a good card and state good
-pub good-after : (c : List ℕ) (s : Volatile) (k : Command) → Fields k → Good c s → Good (apply c s k .card) (apply c s k .report .state)
-good-after c s k f g =
+    let r = not-false _ (p₃ .0) in
     record {
-      long = card-length at88sc1608 c s k ∙ g .long;
-      stage = card-fuses at88sc1608 sound c s k (g .stage);
-      range = state-range at88sc1608 sound Fields (λ z f. f) (λ j xs f. f .0) c s k f (g .range);
+      fit =
+          record {
+            long = eqb-true _ _ (not-false _ (p₁ .0));
+            stage = not-false _ (p₂ .0);
+            range = and-left (volatileInRange at88sc1608 (s .volatile)) _ r;
+          };
+      time = leb-true _ _ (and-right (volatileInRange at88sc1608 (s .volatile)) _ r);
+    }
+
+-- a command with its fields in range leaves a fit card and state fit
+fit-after : (c : List ℕ) (v : Volatile) (k : Command) → Fields k → Fit c v
+    → Fit (any.apply at88sc1608 c v k .card) (any.apply at88sc1608 c v k .report .state)
+fit-after c v k f g =
+    record {
+      long = card-length at88sc1608 c v k ∙ g .long;
+      stage = card-fuses at88sc1608 sound c v k (g .stage);
+      range = state-range at88sc1608 sound Fields (λ z f. f) (λ j xs f. f .0) c v k f (g .range);
+    }
+
+-- an instruction with its fields in range leaves a good card and state good
+pub good-after : (c : List ℕ) (s : State) (i : Instruction) → Ranged i → Good c s → Good (act c s i .card) (act c s i .report .state)
+good-after c s i f g =
+    record {
+      fit = act-keeps at88sc1608 Fit c s i (λ k e. fit-after c (s .volatile) k (subst Ranged e f) (g .fit)) (g .fit);
+      time = act-time at88sc1608 c s i (g .time);
     }
 
 -- and so does every list of calls, of any bytes and lengths
-pub stays-good : (xs : List Call) (m : Powered Volatile) → Good (m .card) (m .state) → Good (final xs m .card) (final xs m .state)
-stays-good = list-keeps check decode apply Good (λ c s k part n e g. good-after c s k (decode-fields part k n e) g)
+pub stays-good : (xs : List Call) (m : Powered State) → Good (m .card) (m .state) → Good (final xs m .card) (final xs m .state)
+stays-good = list-keeps check decode act answeredKind Good (λ c s k part n e g. good-after c s k (decode-ranged part k n e) g)
+
+-- a card keeps its length
+pub act-length : (c : List ℕ) (s : State) (i : Instruction) → length (act c s i .card) ≡ length c
+act-length c s i = act-keeps at88sc1608 (λ d v. length d ≡ length c) c s i (λ k e. card-length at88sc1608 c (s .volatile) k) refl

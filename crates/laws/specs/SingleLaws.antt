@@ -8,20 +8,20 @@ use lib.ListN.{length}
 use Rattle.model.specs.Sizes.{cardSize, fuseAt}
 use Rattle.model.specs.Lists.{at}
 use Rattle.laws.specs.BoolLaws.{choice}
-use Rattle.model.specs.Volatile.{Volatile}
-use Rattle.model.specs.Command.{Command}
+use Rattle.model.specs.Instruction.{Instruction}
+use Rattle.model.specs.Busy.{State, answeredKind}
 use Rattle.model.specs.At88sc1608.{at88sc1608}
 use Rattle.model.specs.Call.{Decoded, refused, whole, Call, checked, exact}
 use Rattle.model.specs.Call as calls
 use Rattle.model.specs.Record.{known, inRange, dataAt, recordLength, decode}
-use Rattle.model.specs.Single.{isFuseByte, stateInRange, checkOf, check, apply, admit, command}
+use Rattle.model.specs.Single.{isFuseByte, stateInRange, checkOf, check, act, admit, command}
 
 -- a refusal up to 12, or no refusal
-abbrev Small : Decoded Command → Type 0
+abbrev Small : Decoded Instruction → Type 0
 Small (refused n) = n ≤ 12
 Small (whole k n) = Unit {0}
 
-either : (t : Bool) (d e : Decoded Command) → Small d → Small e → Small (cond t d e)
+either : (t : Bool) (d e : Decoded Instruction) → Small d → Small e → Small (cond t d e)
 either true d e p q = p
 either false d e p q = q
 
@@ -33,19 +33,19 @@ decode-small part =
     (either (ltb (length part) (dataAt part)) _ _ (omega arith)
     (either (not (inRange (at part 0) (at part 1) (at part 2))) _ _ (omega arith) (either (ltb (length part) (recordLength part)) _ _ (omega arith) tt))))
 
-exact-small : (bytes : List ℕ) (d : Decoded Command) → Small d → Small (exact bytes d)
+exact-small : (bytes : List ℕ) (d : Decoded Instruction) → Small d → Small (exact bytes d)
 exact-small bytes (refused n) p = p
 exact-small bytes (whole k n) p = either (ltb n (length bytes)) (refused 9) (whole k n) (omega arith) tt
 
-fitting-small : (c : List ℕ) (s : Volatile) (room : ℕ) (d : Decoded Command) → Small d → Small (calls.fitting check decode apply c s room d)
+fitting-small : (c : List ℕ) (s : State) (room : ℕ) (d : Decoded Instruction) → Small d → Small (calls.fitting check decode act c s room d)
 fitting-small c s room (refused n) p = p
-fitting-small c s room (whole k n) p = either (ltb room (length (apply c s k .report .answer))) (refused 10) (whole k n) (omega arith) tt
+fitting-small c s room (whole k n) p = either (ltb room (length (act c s k .report .answer))) (refused 10) (whole k n) (omega arith) tt
 
-checked-small : (r : ℕ) (d : Decoded Command) → r ≤ 12 → Small d → Small (checked r d)
+checked-small : (r : ℕ) (d : Decoded Instruction) → r ≤ 12 → Small d → Small (checked r d)
 checked-small zero d l p = p
 checked-small (suc r) d l p = l
 
-check-small : (c : List ℕ) (s : Volatile) → check c s ≤ 12
+check-small : (c : List ℕ) (s : State) → check c s ≤ 12
 unfolding checkOf
 check-small c s =
     choice P (not (eqb (length c) cardSize)) 11 _ (omega arith)
@@ -54,16 +54,16 @@ check-small c s =
     P : ℕ → Type 0
     P n = n ≤ 12
 
-admit-small : (c : List ℕ) (s : Volatile) (x : Call) → Small (admit c s x)
+admit-small : (c : List ℕ) (s : State) (x : Call) → Small (admit c s x)
 unfolding calls.admission
 admit-small c s x =
     checked-small (check c s) _ (check-small c s)
     (fitting-small c s (length (x .space)) (exact (x .sent) (decode (x .sent))) (exact-small (x .sent) (decode (x .sent)) (decode-small (x .sent))))
 
-pub refusal-small : (c : List ℕ) (s : Volatile) (x : Call) → command c s x .reply .refusal ≤ 12
+pub refusal-small : (c : List ℕ) (s : State) (x : Call) → command c s x .reply .refusal ≤ 12
 unfolding calls.command
 refusal-small c s x = go (admit c s x) (admit-small c s x)
   where
-    go : (d : Decoded Command) → Small d → calls.carried check decode apply c s (x .space) d .reply .refusal ≤ 12
+    go : (d : Decoded Instruction) → Small d → calls.carried check decode act answeredKind c s (x .space) d .reply .refusal ≤ 12
     go (refused n) p = p
     go (whole k n) p = omega arith

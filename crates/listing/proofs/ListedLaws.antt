@@ -6,7 +6,7 @@ use native.Mathlib.Omega.{arith}
 use lib.ListN.{length, take, drop, length-append}
 use lib.Seq.{take-append-seam}
 use Rattle.model.specs.Lists.{Bytes}
-use Rattle.model.specs.Command.{Command}
+use Rattle.model.specs.Instruction.{Instruction}
 use Rattle.model.specs.Log.{LaidOut}
 use Rattle.model.specs.Session.{entriesOf, endOf, initial, logOf, Ran, run}
 use Rattle.record.specs.RefusalNumber.{refusalNumber, number-some}
@@ -40,10 +40,10 @@ module _ (s log : List ℕ) (r : Ran) (ran : r ≡ run s log) where
       rw (f, n .1)
 
   module _ (bytes : Bytes s) (zero : r .refusal ≡ 0) where
-    accepts : (ks : List Command) × Accepts s log ks
+    accepts : (ks : List Instruction) × Accepts s log ks
     accepts = accepted-run s log (sym (ap (λ (x : Ran). x .refusal) ran) ∙ zero)
 
-    abbrev ks : List Command
+    abbrev ks : List Instruction
     ks = accepts .0
 
     whole : r ≡ accepting (logOf s ks) log

@@ -6,17 +6,17 @@ use lib.ListN.{length, take, drop, replicate}
 use lib.Seq.{sets}
 use Rattle.model.specs.Sizes.{cardSize, fuseAt, printingSpace}
 use Rattle.model.specs.Lists.{at}
-use Rattle.model.specs.Command.{Command}
+use Rattle.model.specs.Instruction.{Instruction}
 use Rattle.model.specs.Device.{triesOf}
 use Rattle.model.specs.At88sc1608.{at88sc1608}
 use Rattle.model.specs.Log.{countOf, offsetOf, lengthAt, nextEntry}
-use Rattle.model.specs.Session.{commandsIn, readFrom, entriesOf, endOf, initial, run}
+use Rattle.model.specs.Session.{instructionsIn, readFrom, entriesOf, endOf, initial, run}
 use Rattle.model.specs.Session as session
 use Rattle.text.specs.Text.{line, lines, triesLine, fusesLine, refusedLine}
 
--- the commands of a session
-abbrev pub commandsOf : List ℕ → List Command
-commandsOf s = commandsIn (readFrom (session.countOf s) s (session.startOf s))
+-- the instructions of a session
+abbrev pub instructionsOf : List ℕ → List Instruction
+instructionsOf s = instructionsIn (readFrom (session.countOf s) s (session.startOf s))
 
 -- what is told of the final card: the tries left of its counters, and F
 unfoldable pub cardLines : List ℕ → List ℕ
@@ -24,7 +24,7 @@ cardLines c = triesLine (triesOf at88sc1608 c) ++ fusesLine (at c fuseAt)
 
 -- a line per record, and those of the final card; or the refusal alone
 abbrev pub listed : List ℕ → ℕ → List ℕ
-listed s zero = lines 0 (entriesOf (commandsOf s) (initial s)) ++ cardLines (endOf (commandsOf s) (initial s) .card)
+listed s zero = lines 0 (entriesOf (instructionsOf s) (initial s)) ++ cardLines (endOf (instructionsOf s) (initial s) .card)
 listed s (suc n) = refusedLine (suc n)
 
 -- of a session that is run in a log space

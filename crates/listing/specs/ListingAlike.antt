@@ -9,7 +9,7 @@ use Rattle.laws.specs.ListLaws.{tab-cong}
 use Rattle.model.specs.Bits.{triesLeft}
 use Rattle.model.specs.Device.{Counter, ofPassword, ofAuthentication, counterPlace, triesOf}
 use Rattle.model.specs.At88sc1608.{at88sc1608}
-use Rattle.model.specs.Command.{Command}
+use Rattle.model.specs.Instruction.{Instruction}
 use Rattle.model.specs.Session.{endOf, initial, run}
 use Rattle.properties.specs.AcceptedSession.{Accepts}
 use Rattle.properties.specs.SessionAcceptance.{accepted-run}
@@ -26,7 +26,7 @@ tries-same c₁ c₂ e =
     λ i. t i ++ (triesLeft (e ofAuthentication i) ∷ [])
 
 module _ (hidden : ℕ → Bool) (s₁ s₂ log : List ℕ) (shown : hidden fuseAt ≡ false) (alike : SessionsAlike hidden s₁ s₂ log) where
-  accepted : (ks₁ ks₂ : List Command) → Accepts s₁ log ks₁ → Accepts s₂ log ks₂ → listed s₁ 0 ≡ listed s₂ 0
+  accepted : (ks₁ ks₂ : List Instruction) → Accepts s₁ log ks₁ → Accepts s₂ log ks₂ → listed s₁ 0 ≡ listed s₂ 0
   unfolding cardLines
   accepted ks₁ ks₂ a₁ a₂ =
       let r = alike .records ks₁ ks₂ a₁ a₂ in

@@ -19,8 +19,8 @@ use Rattle.listing.specs.Listing.{cardLines, linesAt, logLines}
 entries-listed : (es : List Entry) (p q : List ℕ) (k : ℕ) → AllFit es → linesAt (length es) k (p ++ (entriesBytes es ++ q)) (length p) ≡ lines k es
 entries-listed [] p q k f = refl
 entries-listed (e ∷ es) p q k f =
-    let h : length (e .response) < 65536 = fits-two e (f .1) in
-    let rest = entries-listed es (p ++ entryBytes e) q (suc k) (f .2) in
+    let h : length (e .response) < 65536 = fits-two e (f .0) in
+    let rest = entries-listed es (p ++ entryBytes e) q (suc k) (f .1) in
     rw (first-entry p e es q, kind-at p e (entriesBytes es ++ q), response-at p e (entriesBytes es ++ q) h, next-at p e (entriesBytes es ++ q) h)
     (ap (λ (x : List ℕ). line k (e .kind) (e .response) ++ x) (rw (other-entries p e es q) at rest))
 

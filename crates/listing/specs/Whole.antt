@@ -14,6 +14,7 @@ use Rattle.model.specs.Session.{startOf, countOf, logOf, run}
 use Rattle.properties.specs.Conditions.{Condition, recordConditions, first}
 use Rattle.properties.specs.SessionConditions.{frameConditions, recordsConditions, lastConditions, sessionConditions}
 use Rattle.properties.specs.SessionAcceptance.{refusal-is, accepted-run}
+use Rattle.properties.specs.AcceptedSessionLaws.{log-within}
 use Rattle.properties.specs.ReadBack.{laid-out}
 use Rattle.text.specs.Text.{decimal}
 use Rattle.text.specs.TextLaws.{decimal-few}
@@ -65,7 +66,7 @@ listing-fits s log bytes room = go (run s log .refusal) refl
         let a = accepted-run s log e in
         let w = laid-out s log (a .0) bytes (a .1) in
         let l = listing-length _ _ _ w in
-        let r = a .1 .room in
+        let r = log-within s log (a .0) (a .1) in
         let t : listing s log ≡ logLines (logOf s (a .0)) = rw (e, a .1 .reads) (sym (log-listed _ _ _ w)) in
         rw t (omega arith)
     go (suc n) e =

@@ -1,6 +1,6 @@
 -- The check of a log, from what the tests of the code found, in their order.
 use Prim.Native.Nat.{ℕ, zero, suc, _+_, _-_, _≤_, _<_}
-use mathlib.Core.Bool.{Bool, true, false, cond, not, _&&_, true≢false}
+use mathlib.Core.Bool.{Bool, true, false, cond, not, _&&_, _||_, true≢false}
 use mathlib.Core.List.{List}
 use mathlib.Core.Path.{_≡_, refl, sym, ap, _∙_}
 use native.Mathlib.Omega.{arith}
@@ -10,10 +10,35 @@ use lib.ListN.{length}
 use Rattle.model.specs.Sizes.{fuseAt, leastLog, mostRecords}
 use Rattle.model.specs.Lists.{at}
 use Rattle.laws.specs.BoolLaws.{and-left, and-right}
-use Rattle.model.specs.Log.{lengthAt, nextEntry, entryOk, entriesOk, entryPlace, countOf, offsetOf, trailerOk}
+use Rattle.laws.specs.Tables.{agree-at}
+use Rattle.model.specs.Log.{ignoredKind, entryFits, lengthAt, nextEntry, entryOk, entriesOk, entryPlace, countOf, offsetOf, trailerOk}
 use Rattle.model.specs.Record.{known, lengthFits}
 use Rattle.model.specs.Single.{isFuseByte}
 use Rattle.log.specs.Scan.{Scanned}
+
+-- ---- the kind byte and the response's length of an entry
+
+flags : (a b : Bool) → _≡_ {A = ℕ} (cond a 1 0) (cond b 1 0) → a ≡ b
+flags true true e = refl
+flags true false e = absurd (let z : ⊥ = omega arith in z)
+flags false true e = absurd (let z : ⊥ = omega arith in z)
+flags false false e = refl
+
+pub ignored-range : (k : ℕ) → k < 256 → (leb 130 k && leb k 140) ≡ ignoredKind k
+ignored-range k h = flags _ _ (agree-at (λ n. cond (leb 130 n && leb n 140) 1 0) (λ n. cond (ignoredKind n) 1 0) 256 refl k h)
+
+or-false : (t : Bool) → (t || false) ≡ t
+or-false true = refl
+or-false false = refl
+
+module _ (k n : ℕ) where
+  pub fits-known : (ok : Bool) → k ≤ 14 → ok ≡ (known k && lengthFits k n) → ok ≡ entryFits k n
+  unfolding entryFits
+  fits-known ok l e = rw (lt-leb 128 k (omega arith)) (e ∙ sym (or-false (known k && lengthFits k n)))
+
+  pub fits-ignored : (ok all : Bool) → 14 < k → ok ≡ ignoredKind k → all ≡ (ok && eqb n 0) → all ≡ entryFits k n
+  unfolding entryFits
+  fits-ignored ok all l e q = rw (ne-eqb k 0 (λ z. omega arith), lt-leb _ _ l) (q ∙ ap (λ (t : Bool). t && eqb n 0) e)
 
 -- ---- an entry
 
@@ -23,30 +48,21 @@ module _ (l : List ℕ) (i end : ℕ) where
   no-header h = rw (lt-leb _ _ h)
 
   module _ (header : i + 3 ≤ end) where
-    pub kind-zero : at l i ≡ 0 → false ≡ entryOk l i end
-    unfolding entryOk
-    kind-zero e = rw (le-leb _ _ header, eq-eqb _ _ e)
-
-    pub kind-large : (at l i ≡ 0 → ⊥) → 12 < at l i → false ≡ entryOk l i end
-    unfolding entryOk
-    kind-large n h = rw (le-leb _ _ header, ne-eqb _ _ n, lt-leb _ _ h)
-
-    module _ (n : ℕ) (ok : Bool) (nonzero : at l i ≡ 0 → ⊥) (small : at l i ≤ 12) (long : n ≡ lengthAt l i) (fits : ok ≡ lengthFits (at l i) n) where
+    module _ (n : ℕ) (ok : Bool) (long : n ≡ lengthAt l i) (fits : ok ≡ entryFits (at l i) n) where
       pub misfit : not ok ≡ true → false ≡ entryOk l i end
       unfolding entryOk
-      misfit t = rw (le-leb _ _ header, ne-eqb _ _ nonzero, le-leb _ _ small, ← long, ← fits, not-true ok t)
+      misfit t = rw (le-leb _ _ header, ← long, ← fits, not-true ok t)
 
       pub ends-by : not ok ≡ false → leb (i + 3 + n) end ≡ entryOk l i end
       unfolding entryOk
-      ends-by t = rw (le-leb _ _ header, ne-eqb _ _ nonzero, le-leb _ _ small, ← long, ← fits, not-false ok t)
+      ends-by t = rw (le-leb _ _ header, ← long, ← fits, not-false ok t)
 
 -- what an entry that is well says
 pub entry-within : (l : List ℕ) (i end : ℕ) → entryOk l i end ≡ true → (i + 3 ≤ end) × (nextEntry l i ≤ end)
 unfolding entryOk
 entry-within l i end e =
     let p = and-right (leb (i + 3) end) _ e in
-    let q = and-right (known (at l i)) _ p in
-    (leb-true _ _ (and-left (leb (i + 3) end) _ e), leb-true _ _ (and-right (lengthFits (at l i) (lengthAt l i)) _ q))
+    (leb-true _ _ (and-left (leb (i + 3) end) _ e), leb-true _ _ (and-right (entryFits (at l i) (lengthAt l i)) _ p))
 
 -- ---- the pass over the entries
 

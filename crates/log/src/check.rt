@@ -4,22 +4,26 @@ ghost use mathlib.Core.Bool.{cond};
 ghost use Prim.Native.Nat.{_+_, _≤_};
 ghost use lib.ListN.{length};
 ghost use Rattle.model.specs.Log as model;
-ghost use Rattle.model.specs.Record.{lengthFits};
 ghost use Rattle.log.specs.Scan.{Scanned};
 use record::kind::both;
+use record::kind::length_fits;
 use record::number::get2;
 
-// Whether a response to a kind can be this long.
-fn length_fits(kind: u8, response: usize) -> bool
-    ensures { λ r. ⌜ r ≡ lengthFits kind response ⌝ }
+// Whether a kind byte is that of an ignored record: kinds 2 to 12, plus 128.
+fn is_ignored_kind(kind: u8) -> bool
+    ensures { λ r. ⌜ r ≡ model.ignoredKind kind ⌝ }
 {
-    match kind {
-        2 => response == 4,
-        4 => both(1 <= response, response <= 256),
-        6 => both(1 <= response, response <= 128),
-        8 => response == 1,
-        _ => response == 0,
+    both(130 <= kind, kind <= 140)
+}
+
+// Whether an entry can have this kind byte and a response that long.
+fn entry_fits(kind: u8, response: usize) -> bool
+    ensures { λ r. ⌜ r ≡ model.entryFits kind response ⌝ }
+{
+    if kind <= 14 {
+        return length_fits(kind, response);
     }
+    both(is_ignored_kind(kind), response == 0)
 }
 
 // Whether an entry stands at a place and ends by end.
@@ -30,15 +34,8 @@ fn entry_ok(log: &[u8], at: usize, end: usize) -> bool
     if end < at + 3 {
         return false;
     }
-    let kind = log[at];
-    if kind == 0 {
-        return false;
-    }
-    if 12 < kind {
-        return false;
-    }
     let response = get2(log, at + 1);
-    if !length_fits(kind, response) {
+    if !entry_fits(log[at], response) {
         return false;
     }
     at + 3 + response <= end

@@ -54,9 +54,11 @@ pub data Decoded (K : Type 0) : Type 0 where
   refused : ℕ → Decoded K
   whole : K → ℕ → Decoded K
 
--- what a call gives back: the refusal's number or 0, the response's length, the volatile state, the tries left, the whole response space
+-- what a call gives back: the refusal's number or 0, the kind that is answered, the response's length, the state, the tries left, the
+-- whole response space
 pub record Reply (S : Type 0) : Type 0 where
   pub refusal : ℕ
+  pub kind : ℕ
   pub size : ℕ
   pub state : S
   pub tries : ℕ
@@ -75,15 +77,16 @@ pub record Call : Type 0 where
 abbrev pub calling : List ℕ → List ℕ → Call
 calling sent space = record { sent = sent; space = space }
 
--- a refusal: its number, no response and no tries, the state and the space as they came
+-- a refusal: its number, no kind, no response and no tries, the state and the space as they came
 abbrev pub refusing : {S : Type 0} → ℕ → S → List ℕ → Reply S
-refusing n s space = record { refusal = n; size = 0; state = s; tries = 0; space = space }
+refusing n s space = record { refusal = n; kind = 0; size = 0; state = s; tries = 0; space = space }
 
 -- an accepted call writes its answer at the front of the space and keeps the rest
-abbrev pub replying : {S : Type 0} → List ℕ → Report S → Reply S
-replying space r =
+abbrev pub replying : {S : Type 0} → ℕ → List ℕ → Report S → Reply S
+replying kind space r =
     record {
       refusal = 0;
+      kind = kind;
       size = length (r .answer);
       state = r .state;
       tries = r .tries;
@@ -113,23 +116,25 @@ module _ {S K : Type 0} (check : List ℕ → S → ℕ) (decode : List ℕ → 
   abbrev pub admit : List ℕ → S → Call → Decoded K
   admit c s x = admission c s (x .sent) (length (x .space))
 
-  abbrev pub carried : List ℕ → S → List ℕ → Decoded K → Called S
-  carried c s space (refused n) = record { card = c; reply = refusing n s space }
-  carried c s space (whole k n) = record { card = act c s k .card; reply = replying space (act c s k .report) }
+  -- by the state and the command: the kind that is answered
+  module _ (kind : S → K → ℕ) where
+    abbrev pub carried : List ℕ → S → List ℕ → Decoded K → Called S
+    carried c s space (refused n) = record { card = c; reply = refusing n s space }
+    carried c s space (whole k n) = record { card = act c s k .card; reply = replying (kind s k) space (act c s k .report) }
 
-  unfoldable pub command : List ℕ → S → Call → Called S
-  command c s x = carried c s (x .space) (admit c s x)
+    unfoldable pub command : List ℕ → S → Call → Called S
+    command c s x = carried c s (x .space) (admit c s x)
 
-  -- what a call leaves for the next one, be it refused or not
-  abbrev pub step : Powered S → Call → Powered S
-  step m x =
-      record { card = command (m .card) (m .state) x .card; state = command (m .card) (m .state) x .reply .state }
+    -- what a call leaves for the next one, be it refused or not
+    abbrev pub step : Powered S → Call → Powered S
+    step m x =
+        record { card = command (m .card) (m .state) x .card; state = command (m .card) (m .state) x .reply .state }
 
-  -- what a list of calls gives back, and what it leaves
-  unfoldable pub replies : List Call → Powered S → List (Reply S)
-  replies [] m = []
-  replies (x ∷ xs) m = command (m .card) (m .state) x .reply ∷ replies xs (step m x)
+    -- what a list of calls gives back, and what it leaves
+    unfoldable pub replies : List Call → Powered S → List (Reply S)
+    replies [] m = []
+    replies (x ∷ xs) m = command (m .card) (m .state) x .reply ∷ replies xs (step m x)
 
-  unfoldable pub final : List Call → Powered S → Powered S
-  final [] m = m
-  final (x ∷ xs) m = final xs (step m x)
+    unfoldable pub final : List Call → Powered S → Powered S
+    final [] m = m
+    final (x ∷ xs) m = final xs (step m x)

@@ -1,6 +1,6 @@
 -- The paper's cases A to L ("Twelve cards on the examiner's wall"), computed with the single command on whole cards: one table,
 -- one theorem.
-use Prim.Native.Nat.{ℕ, _+_}
+use Prim.Native.Nat.{ℕ}
 use mathlib.Core.Bool.{Bool, cond}
 use mathlib.Core.List.{List, [], _∷_, map}
 use mathlib.Core.Path.{_≡_, refl}
@@ -19,7 +19,7 @@ abbrev presented : ℕ → List ℕ → List ℕ
 presented pac bytes =
     let c : List ℕ = set (blank 0) (counterAt 0) pac in
     let records : List (List ℕ) = (10 ∷ 0 ∷ bytes) ∷ (6 ∷ 0x40 ∷ 1 ∷ []) ∷ [] in
-    activeNumber (left c records .state .active) ∷ getD (spaces c records) 1 []
+    activeNumber (left c records .state .volatile .active) ∷ getD (spaces c records) 1 []
 
 -- the first byte of zone 0 after a write of $3C over $F0, at a fuse byte and a register of zone 0
 abbrev written : ℕ → ℕ → ℕ

@@ -7,9 +7,11 @@ pub mod Reversal
 pub mod Refusal
 pub mod Volatile
 pub mod Command
+pub mod Instruction
 pub mod Device
 pub mod Call
 pub mod Apply
+pub mod Busy
 pub mod Access
 pub mod At88sc1608
 pub mod Record
@@ -23,3 +25,4 @@ pub mod Cases
 pub mod Mistakes
 pub mod Attempts
 pub mod ClosedBytes
+pub mod BusyCards

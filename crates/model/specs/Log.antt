@@ -1,6 +1,6 @@
 -- The log ("Session and log"): how it is laid out, when it is accepted, and where an answer lies in it.
 use Prim.Native.Nat.{ℕ, zero, suc, _+_, _-_, _≤_}
-use mathlib.Core.Bool.{Bool, true, cond, not, _&&_}
+use mathlib.Core.Bool.{Bool, true, cond, not, _&&_, _||_}
 use mathlib.Core.List.{List, [], _∷_, _++_}
 use mathlib.Core.Path.{_≡_}
 use lib.Dec.{ltb, leb, eqb}
@@ -8,13 +8,14 @@ use lib.ListN.{length, take, drop}
 use Rattle.model.specs.Sizes.{cardSize, fuseAt, trailerSize, leastLog, mostRecords}
 use Rattle.model.specs.Lists.{at}
 use Rattle.model.specs.Numbers.{bytesOf, numberAt}
+use Rattle.model.specs.Busy.{actsAlways}
 use Rattle.model.specs.Record.{known, lengthFits}
 use Rattle.model.specs.Refusal.{notALog, noSuchAnswer}
 use Rattle.model.specs.Single.{isFuseByte}
 
 -- ---- the layout
 
--- an entry: a record's kind and its response
+-- an entry: the kind that was answered, and the response
 pub record Entry : Type 0 where
   pub kind : ℕ
   pub response : List ℕ
@@ -35,10 +36,17 @@ logTrailer offset count = bytesOf 4 offset ++ (bytesOf 2 count ++ (0x4C ∷ 0x4F
 abbrev pub logBytes : List Entry → List ℕ → List ℕ
 logBytes es card = entriesBytes es ++ (card ++ logTrailer (length (entriesBytes es)) (length es))
 
--- every entry has a known kind and a response of a length that its kind may have
+-- the kind byte of an ignored record
+abbrev pub ignoredKind : ℕ → Bool
+ignoredKind kind = leb 128 kind && (known (kind - 128) && not (actsAlways (kind - 128)))
+
+-- a known kind with a response of a length that it may have, or that of an ignored record with none
+unfoldable pub entryFits : ℕ → ℕ → Bool
+entryFits kind n = (known kind && lengthFits kind n) || (ignoredKind kind && eqb n 0)
+
 abbrev pub AllFit : List Entry → Type 0
 AllFit [] = Unit {0}
-AllFit (e ∷ es) = (known (e .kind) ≡ true) × (lengthFits (e .kind) (length (e .response)) ≡ true) × AllFit es
+AllFit (e ∷ es) = (entryFits (e .kind) (length (e .response)) ≡ true) × AllFit es
 
 -- what a log is the writing of
 pub record LaidOut (es : List Entry) (card l : List ℕ) : Type 0 where
@@ -65,7 +73,7 @@ nextEntry l i = i + 3 + lengthAt l i
 
 -- an entry that ends by a place
 unfoldable pub entryOk : List ℕ → ℕ → ℕ → Bool
-entryOk l i end = leb (i + 3) end && (known (at l i) && (lengthFits (at l i) (lengthAt l i) && leb (nextEntry l i) end))
+entryOk l i end = leb (i + 3) end && (entryFits (at l i) (lengthAt l i) && leb (nextEntry l i) end)
 
 -- n entries that end at a place
 abbrev pub entriesOk : ℕ → List ℕ → ℕ → ℕ → Bool

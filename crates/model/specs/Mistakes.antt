@@ -10,7 +10,7 @@ use Rattle.model.specs.Computed.{computed}
 
 -- the active password after some records on a sealed card of $FF bytes, whose passwords are all $FF $FF $FF
 abbrev active : List (List ℕ) → ℕ
-active records = activeNumber (left (blank 0) records .state .active)
+active records = activeNumber (left (blank 0) records .state .volatile .active)
 
 -- a right write password of set 3, a wrong one of set 5
 abbrev rightThree : List ℕ

@@ -4,7 +4,7 @@ use mathlib.Core.List.{List}
 use lib.ListN.{length, take, drop}
 use Rattle.model.specs.Sizes.{trailerSize}
 use Rattle.model.specs.Call.{Decoded}
-use Rattle.model.specs.Command.{Command}
+use Rattle.model.specs.Instruction.{Instruction}
 use Rattle.model.specs.Record.{decode}
 
 -- The end of the records is the start of the trailer. Subtraction stops at 0, so a session shorter than a trailer has its end there.
@@ -16,5 +16,5 @@ abbrev pub partAt : List ℕ → ℕ → List ℕ
 partAt s i = take (recordsEnd (length s) - i) (drop i s)
 
 -- what the next record is
-abbrev pub nextOf : List ℕ → ℕ → Decoded Command
+abbrev pub nextOf : List ℕ → ℕ → Decoded Instruction
 nextOf s i = decode (partAt s i)

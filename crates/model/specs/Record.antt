@@ -1,4 +1,4 @@
--- Records ("What each command does", "Sent back with a number"): a kind byte, its fixed fields, its data. The twelve kinds are one
+-- Records ("What each command does", "Sent back with a number"): a kind byte, its fixed fields, its data. The fourteen kinds are one
 -- table, from which the decoder and the log's check both read.
 use Prim.Native.Nat.{ℕ, _+_, _-_}
 use mathlib.Core.Bool.{Bool, true, cond, not, _&&_}
@@ -7,22 +7,23 @@ use lib.Dec.{ltb, leb, eqb}
 use lib.ListN.{length, take, drop, getD}
 use Rattle.model.specs.Lists.{at}
 use Rattle.model.specs.Call.{Decoded, refused, whole}
-use Rattle.model.specs.Command.{Command, powerCycle, reset, select, readZone, writeZone, readConfiguration, writeConfiguration, readFuses, writeFuses}
+use Rattle.model.specs.Command.{powerCycle, reset, select, readZone, writeZone, readConfiguration, writeConfiguration, readFuses, writeFuses}
 use Rattle.model.specs.Command.{verifyPassword, beginAuthentication, verifyAuthentication}
+use Rattle.model.specs.Instruction.{Instruction, issue, wait, poll}
 use Rattle.model.specs.Refusal.{unknownKind, fieldOutOfRange, cutShort}
 
 -- ---- the kinds
 
 -- a row: how many fixed fields of one byte a kind has; which values of them, a and then n, are in range; how many data bytes follow,
--- by n; the command that fields and data make; which lengths a response to it may have in a log
+-- by n; the instruction that fields and data make; which lengths a response to it may have in a log
 pub record Kind : Type 0 where
   pub fixed : ℕ
   pub range : ℕ → ℕ → Bool
   pub follow : ℕ → ℕ
-  pub make : ℕ → ℕ → List ℕ → Command
+  pub make : ℕ → ℕ → List ℕ → Instruction
   pub answers : ℕ → Bool
 
-abbrev row : ℕ → (ℕ → ℕ → Bool) → (ℕ → ℕ) → (ℕ → ℕ → List ℕ → Command) → (ℕ → Bool) → Kind
+abbrev row : ℕ → (ℕ → ℕ → Bool) → (ℕ → ℕ) → (ℕ → ℕ → List ℕ → Instruction) → (ℕ → Bool) → Kind
 row fixed range follow make answers = record { fixed = fixed; range = range; follow = follow; make = make; answers = answers }
 
 -- words for the cells
@@ -41,35 +42,39 @@ none n = 0
 unfoldable pub kinds : List Kind
 kinds =
     -- 1 power cycle, 2 reset
-    row 0 any none (λ a n xs. powerCycle) (exactly 0)
-    ∷ row 0 any none (λ a n xs. reset) (exactly 4)
+    row 0 any none (λ a n xs. issue powerCycle) (exactly 0)
+    ∷ row 0 any none (λ a n xs. issue reset) (exactly 4)
     -- 3 select: a zone
-    ∷ row 1 (λ a n. leb a 7) none (λ a n xs. select a) (exactly 0)
+    ∷ row 1 (λ a n. leb a 7) none (λ a n xs. issue (select a)) (exactly 0)
     -- 4 read zone: an address and a count, of which 0 stands for 256
-    ∷ row 2 any none (λ a n xs. readZone a (cond (eqb n 0) 256 n)) (between 1 256)
+    ∷ row 2 any none (λ a n xs. issue (readZone a (cond (eqb n 0) 256 n))) (between 1 256)
     -- 5 write zone: an address, a count, so many bytes
-    ∷ row 2 (λ a n. between 1 16 n) (λ n. n) (λ a n xs. writeZone a xs) (exactly 0)
+    ∷ row 2 (λ a n. between 1 16 n) (λ n. n) (λ a n xs. issue (writeZone a xs)) (exactly 0)
     -- 6 read configuration: an address and a count
-    ∷ row 2 (λ a n. leb a 127 && (leb 1 n && leb (a + n) 128)) none (λ a n xs. readConfiguration a n) (between 1 128)
+    ∷ row 2 (λ a n. leb a 127 && (leb 1 n && leb (a + n) 128)) none (λ a n xs. issue (readConfiguration a n)) (between 1 128)
     -- 7 write configuration: an address, a count, so many bytes
-    ∷ row 2 (λ a n. leb a 127 && between 1 16 n) (λ n. n) (λ a n xs. writeConfiguration a xs) (exactly 0)
+    ∷ row 2 (λ a n. leb a 127 && between 1 16 n) (λ n. n) (λ a n xs. issue (writeConfiguration a xs)) (exactly 0)
     -- 8 read fuses, 9 write fuses
-    ∷ row 0 any none (λ a n xs. readFuses) (exactly 1)
-    ∷ row 0 any none (λ a n xs. writeFuses) (exactly 0)
+    ∷ row 0 any none (λ a n xs. issue readFuses) (exactly 1)
+    ∷ row 0 any none (λ a n xs. issue writeFuses) (exactly 0)
     -- 10 verify password: a selector, three bytes
-    ∷ row 1 (λ a n. leb a 15) (λ n. 3) (λ a n xs. verifyPassword a xs) (exactly 0)
+    ∷ row 1 (λ a n. leb a 15) (λ n. 3) (λ a n xs. issue (verifyPassword a xs)) (exactly 0)
     -- 11 begin authentication
-    ∷ row 0 any none (λ a n xs. beginAuthentication) (exactly 0)
+    ∷ row 0 any none (λ a n xs. issue beginAuthentication) (exactly 0)
     -- 12 verify authentication: the verdict, eight bytes
-    ∷ row 1 (λ a n. leb a 1) (λ n. 8) (λ a n xs. verifyAuthentication (eqb a 1) xs) (exactly 0)
+    ∷ row 1 (λ a n. leb a 1) (λ n. 8) (λ a n xs. issue (verifyAuthentication (eqb a 1) xs)) (exactly 0)
+    -- 13 wait: milliseconds
+    ∷ row 1 (λ a n. between 1 255 a) none (λ a n xs. wait a) (exactly 0)
+    -- 14 poll
+    ∷ row 0 any none (λ a n xs. poll) (exactly 1)
     ∷ []
 
 abbrev pub known : ℕ → Bool
-known kind = not (eqb kind 0) && leb kind 12
+known kind = not (eqb kind 0) && leb kind 14
 
 -- the row of a known kind; one without fields, data and answer stands for all others
 abbrev pub rowOf : ℕ → Kind
-rowOf kind = getD kinds (kind - 1) (row 0 any none (λ a n xs. powerCycle) (exactly 0))
+rowOf kind = getD kinds (kind - 1) (row 0 any none (λ a n xs. issue powerCycle) (exactly 0))
 
 unfoldable pub fixedFields : ℕ → ℕ
 fixedFields kind = rowOf kind .fixed
@@ -80,7 +85,7 @@ inRange kind a n = rowOf kind .range a n
 unfoldable pub dataLength : ℕ → ℕ → ℕ
 dataLength kind n = rowOf kind .follow n
 
-unfoldable pub made : ℕ → ℕ → ℕ → List ℕ → Command
+unfoldable pub made : ℕ → ℕ → ℕ → List ℕ → Instruction
 made kind a n xs = rowOf kind .make a n xs
 
 unfoldable pub lengthFits : ℕ → ℕ → Bool
@@ -96,7 +101,7 @@ abbrev pub recordLength : List ℕ → ℕ
 recordLength part = dataAt part + dataLength (at part 0) (at part 2)
 
 -- The five tests in turn: there is a kind byte, it is known, the fixed fields are all there, they are in range, the data are all there.
-unfoldable pub decode : List ℕ → Decoded Command
+unfoldable pub decode : List ℕ → Decoded Instruction
 decode part =
     cond (eqb (length part) 0) (refused cutShort)
     (cond (not (known (at part 0))) (refused unknownKind)

@@ -4,17 +4,16 @@ use mathlib.Core.Bool.{Bool, cond, not, _&&_}
 use mathlib.Core.List.{List, [], _∷_, _++_}
 use lib.Dec.{ltb, leb, eqb}
 use lib.ListN.{length, take, drop}
-use Rattle.model.specs.Sizes.{cardSize, fuseAt, trailerSize, leastSession, greatestSession, mostRecords}
+use Rattle.model.specs.Sizes.{cardSize, fuseAt, trailerSize, leastSession, greatestSession, leastLog, mostRecords}
 use Rattle.model.specs.Lists.{at}
 use Rattle.model.specs.Numbers.{numberAt}
-use Rattle.model.specs.Volatile.{Volatile, powerUp}
-use Rattle.model.specs.Command.{Command, powerCycle, reset, select, readZone, writeZone, readConfiguration, writeConfiguration, readFuses, writeFuses}
-use Rattle.model.specs.Command.{verifyPassword, beginAuthentication, verifyAuthentication}
+use Rattle.model.specs.Instruction.{Instruction}
+use Rattle.model.specs.Busy.{State, powerOn, answeredKind}
 use Rattle.model.specs.Call.{Powered, powered, Decoded, refused, whole}
 use Rattle.model.specs.Refusal.{sessionLength, sessionTrailer, startOutOfRange, tooManyRecords, fuseByte, bytesLeft, noSpace}
 use Rattle.model.specs.Log.{Entry, logBytes}
 use Rattle.model.specs.Reader.{recordsEnd, nextOf}
-use Rattle.model.specs.Single.{isFuseByte, apply}
+use Rattle.model.specs.Single.{isFuseByte, perform, act}
 
 -- ---- the frame: the card, free text, the records, the trailer
 
@@ -53,20 +52,20 @@ frame s =
 
 -- ---- the records in turn
 
--- what reading records finds: the number of the first refusal, or the commands and the place past them
+-- what reading records finds: the number of the first refusal, or the instructions and the place past them
 pub data Read : Type 0 where
   stopped : ℕ → Read
-  all : List Command → ℕ → Read
+  all : List Instruction → ℕ → Read
 
-abbrev pub onDecoded : {A : Type 0} → Decoded Command → (ℕ → A) → (Command → ℕ → A) → A
+abbrev pub onDecoded : {A : Type 0} → Decoded Instruction → (ℕ → A) → (Instruction → ℕ → A) → A
 onDecoded (refused n) f g = f n
 onDecoded (whole k n) f g = g k n
 
-abbrev pub commandsIn : Read → List Command
-commandsIn (stopped n) = []
-commandsIn (all ks i) = ks
+abbrev pub instructionsIn : Read → List Instruction
+instructionsIn (stopped n) = []
+instructionsIn (all ks i) = ks
 
-abbrev pub more : Command → Read → Read
+abbrev pub more : Instruction → Read → Read
 more k (stopped n) = stopped n
 more k (all ks i) = all (k ∷ ks) i
 
@@ -77,41 +76,32 @@ readFrom (suc n) s i = onDecoded (nextOf s i) stopped (λ k m. more k (readFrom 
 
 -- ---- the run
 
-abbrev pub kindOf : Command → ℕ
-kindOf powerCycle = 1
-kindOf reset = 2
-kindOf (select z) = 3
-kindOf (readZone a n) = 4
-kindOf (writeZone a xs) = 5
-kindOf (readConfiguration a n) = 6
-kindOf (writeConfiguration a xs) = 7
-kindOf readFuses = 8
-kindOf writeFuses = 9
-kindOf (verifyPassword k xs) = 10
-kindOf beginAuthentication = 11
-kindOf (verifyAuthentication v xs) = 12
+-- what a record logs, and what it leaves
+abbrev pub logged : Powered State → Instruction → Entry
+logged m k = record { kind = answeredKind (m .state) k; response = act (m .card) (m .state) k .report .answer }
 
--- what a command logs, and what it leaves
-abbrev pub logged : Powered Volatile → Command → Entry
-logged m k = record { kind = kindOf k; response = apply (m .card) (m .state) k .report .answer }
+abbrev pub after : Powered State → Instruction → Powered State
+after m k = powered (act (m .card) (m .state) k .card) (act (m .card) (m .state) k .report .state)
 
-abbrev pub after : Powered Volatile → Command → Powered Volatile
-after m k = powered (apply (m .card) (m .state) k .card) (apply (m .card) (m .state) k .report .state)
-
-abbrev pub entriesOf : List Command → Powered Volatile → List Entry
+abbrev pub entriesOf : List Instruction → Powered State → List Entry
 entriesOf [] m = []
 entriesOf (k ∷ ks) m = logged m k ∷ entriesOf ks (after m k)
 
-abbrev pub endOf : List Command → Powered Volatile → Powered Volatile
+abbrev pub endOf : List Instruction → Powered State → Powered State
 endOf [] m = m
 endOf (k ∷ ks) m = endOf ks (after m k)
 
--- a session's card at power-up, and the log of its commands run from there
-abbrev pub initial : List ℕ → Powered Volatile
-initial s = powered (cardOf s) powerUp
+-- a session's card at power-up, and the log of its records run from there
+abbrev pub initial : List ℕ → Powered State
+initial s = powered (cardOf s) powerOn
 
-abbrev pub logOf : List ℕ → List Command → List ℕ
+abbrev pub logOf : List ℕ → List Instruction → List ℕ
 logOf s ks = logBytes (entriesOf ks (initial s)) (endOf ks (initial s) .card)
+
+-- how long the entries would be if every record were answered in full, an ignored one as if it were not ignored
+abbrev pub fullEntries : List Instruction → Powered State → ℕ
+fullEntries [] m = 0
+fullEntries (k ∷ ks) m = 3 + length (perform (m .card) (m .state) k .report .answer) + fullEntries ks (after m k)
 
 -- ---- what a session gives back and leaves: the refusal's number or 0, the log's length, the whole log space
 
@@ -123,16 +113,18 @@ pub record Ran : Type 0 where
 abbrev pub rejected : ℕ → List ℕ → Ran
 rejected n space = record { refusal = n; size = 0; space = space }
 
--- 10, or the log at the front of the space
-abbrev pub written : List ℕ → List ℕ → Ran
-written log space =
-    cond (ltb (length space) (length log)) (rejected noSpace space)
+-- 10, by the length of a log with every record answered in full; or the log at the front of the space
+abbrev pub written : ℕ → List ℕ → List ℕ → Ran
+written full log space =
+    cond (ltb (length space) full) (rejected noSpace space)
     (record { refusal = 0; size = length log; space = log ++ drop (length log) space })
 
 -- 9, or the run
 abbrev pub ended : List ℕ → List ℕ → Read → Ran
 ended s space (stopped n) = rejected n space
-ended s space (all ks i) = cond (not (eqb i (recordsEnd (length s)))) (rejected bytesLeft space) (written (logOf s ks) space)
+ended s space (all ks i) =
+    cond (not (eqb i (recordsEnd (length s)))) (rejected bytesLeft space)
+    (written (fullEntries ks (initial s) + leastLog) (logOf s ks) space)
 
 -- the records, where the frame is well
 abbrev pub framed : List ℕ → List ℕ → ℕ → Ran

@@ -3,16 +3,19 @@
 use Prim.Native.Nat.{ℕ}
 use mathlib.Core.Bool.{Bool, true, cond, not, _&&_, _||_}
 use mathlib.Core.List.{List}
-use lib.Dec.{ltb, eqb}
+use lib.Dec.{ltb, leb, eqb}
 use lib.ListN.{length}
 use Rattle.model.specs.Lists.{at}
 use Rattle.model.specs.Volatile.{Volatile, Active, none, selector}
 use Rattle.model.specs.Command.{Command}
+use Rattle.model.specs.Instruction.{Instruction}
 use Rattle.model.specs.Device.{Device}
 use Rattle.model.specs.Refusal.{cardLength, fuseByte, stateOutOfRange}
 use Rattle.model.specs.Call.{Call, Called, Decoded, Powered, Reply}
 use Rattle.model.specs.Call as calls
 use Rattle.model.specs.Apply as any
+use Rattle.model.specs.Busy.{State, writeTime, answeredKind}
+use Rattle.model.specs.Busy as any-busy
 use Rattle.model.specs.At88sc1608.{at88sc1608}
 use Rattle.model.specs.Record.{decode}
 
@@ -24,35 +27,45 @@ abbrev pub activeBelow : ℕ → Active → Bool
 activeBelow n none = true
 activeBelow n (selector k) = ltb k n
 
-abbrev pub stateInRange : Device → Volatile → Bool
-stateInRange D s = ltb (s .zone) (D .zones) && activeBelow (D .selectors) (s .active)
+abbrev pub volatileInRange : Device → Volatile → Bool
+volatileInRange D v = ltb (v .zone) (D .zones) && activeBelow (D .selectors) (v .active)
+
+abbrev pub stateInRange : Device → State → Bool
+stateInRange D s = volatileInRange D (s .volatile) && leb (s .busy) writeTime
 
 -- 11, 5, 12 in this order; 0 where none of them applies
-unfoldable pub checkOf : Device → List ℕ → Volatile → ℕ
+unfoldable pub checkOf : Device → List ℕ → State → ℕ
 checkOf D c s =
     cond (not (eqb (length c) (D .size))) cardLength
     (cond (not (isFuseByte (at c (D .fuseAt)))) fuseByte (cond (not (stateInRange D s)) stateOutOfRange 0))
 
-abbrev pub check : List ℕ → Volatile → ℕ
+abbrev pub check : List ℕ → State → ℕ
 check = checkOf at88sc1608
 
+-- the twelve commands of a card that is ready, and every instruction
 abbrev pub apply : List ℕ → Volatile → Command → calls.Acted Volatile
 apply = any.apply at88sc1608
 
--- of a record and the room for a response: 11, 5, 12, the record, 9, 10; or the command that is carried out
-abbrev pub admission : List ℕ → Volatile → List ℕ → ℕ → Decoded Command
-admission = calls.admission check decode apply
+abbrev pub perform : List ℕ → State → Instruction → calls.Acted State
+perform = any-busy.perform at88sc1608
 
-abbrev pub admit : List ℕ → Volatile → Call → Decoded Command
-admit = calls.admit check decode apply
+abbrev pub act : List ℕ → State → Instruction → calls.Acted State
+act = any-busy.act at88sc1608
+
+-- of a record and the room for a response: 11, 5, 12, the record, 9, 10; or the instruction that is carried out
+abbrev pub admission : List ℕ → State → List ℕ → ℕ → Decoded Instruction
+admission = calls.admission check decode act
+
+abbrev pub admit : List ℕ → State → Call → Decoded Instruction
+admit = calls.admit check decode act
 
 -- what a call gives back and leaves
-abbrev pub command : List ℕ → Volatile → Call → Called Volatile
-command = calls.command check decode apply
+abbrev pub command : List ℕ → State → Call → Called State
+command = calls.command check decode act answeredKind
 
 -- what a list of calls gives back and leaves, from a card with its state on
-abbrev pub replies : List Call → Powered Volatile → List (Reply Volatile)
-replies = calls.replies check decode apply
+abbrev pub replies : List Call → Powered State → List (Reply State)
+replies = calls.replies check decode act answeredKind
 
-abbrev pub final : List Call → Powered Volatile → Powered Volatile
-final = calls.final check decode apply
+abbrev pub final : List Call → Powered State → Powered State
+final = calls.final check decode act answeredKind

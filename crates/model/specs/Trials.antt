@@ -4,8 +4,9 @@ use Prim.Native.Nat.{ℕ, _+_, _-_}
 use mathlib.Core.List.{List, [], _∷_, _++_, map}
 use lib.ListN.{replicate}
 use Rattle.model.specs.Sizes.{cardSize, fuseAt}
-use Rattle.model.specs.Volatile.{Volatile, Active, none, selector, powerUp}
-use Rattle.model.specs.Call.{Call, Powered}
+use Rattle.model.specs.Volatile.{Active, none, selector}
+use Rattle.model.specs.Busy.{State, powerOn}
+use Rattle.model.specs.Call.{Call, Powered, Reply}
 use Rattle.model.specs.Single.{replies, final}
 
 -- a card of $FF bytes with the fuse byte f
@@ -16,17 +17,28 @@ blank f = replicate fuseAt 0xFF ++ (f ∷ replicate (cardSize - fuseAt - 1) 0xFF
 abbrev pub call : List ℕ → Call
 call bytes = record { sent = bytes; space = replicate 4 0x99 }
 
-abbrev pub on : List ℕ → Powered Volatile
-on c = record { card = c; state = powerUp }
+abbrev pub on : List ℕ → Powered State
+on c = record { card = c; state = powerOn }
+
+-- 10 ms pass after each record, so that the next one meets a card that is ready
+abbrev pub spaced : List (List ℕ) → List Call
+spaced [] = []
+spaced (r ∷ rs) = call r ∷ call (13 ∷ 10 ∷ []) ∷ spaced rs
+
+-- the replies to the records alone
+abbrev pub replied : List (Reply State) → List (Reply State)
+replied [] = []
+replied (r ∷ []) = r ∷ []
+replied (r ∷ waited ∷ rs) = r ∷ replied rs
 
 abbrev pub spaces : List ℕ → List (List ℕ) → List (List ℕ)
-spaces c records = map (λ r. r .space) (replies (map call records) (on c))
+spaces c records = map (λ r. r .space) (replied (replies (spaced records) (on c)))
 
 abbrev pub tries : List ℕ → List (List ℕ) → List ℕ
-tries c records = map (λ r. r .tries) (replies (map call records) (on c))
+tries c records = map (λ r. r .tries) (replied (replies (spaced records) (on c)))
 
-abbrev pub left : List ℕ → List (List ℕ) → Powered Volatile
-left c records = final (map call records) (on c)
+abbrev pub left : List ℕ → List (List ℕ) → Powered State
+left c records = final (spaced records) (on c)
 
 -- the active password as a number: 0 for none
 abbrev pub activeNumber : Active → ℕ

@@ -1,27 +1,28 @@
--- The words about an accepted session: its commands, what it gives back and leaves, what it has reached before a record, and what a
+-- The words about an accepted session: its instructions, what it gives back and leaves, what it has reached before a record, and what a
 -- single command leaves there.
-use Prim.Native.Nat.{ℕ, _≤_}
+use Prim.Native.Nat.{ℕ, _+_, _≤_}
 use mathlib.Core.List.{List, [], _∷_, _++_}
 use mathlib.Core.Path.{_≡_}
 use lib.ListN.{length, take, drop, getD}
-use Rattle.model.specs.Sizes.{cardSize}
+use Rattle.model.specs.Sizes.{cardSize, leastLog}
+use Rattle.model.specs.Lists.{at}
 use Rattle.model.specs.Numbers.{bytesOf}
-use Rattle.model.specs.Volatile.{Volatile}
-use Rattle.model.specs.Command.{Command, powerCycle}
-use Rattle.model.specs.At88sc1608.{at88sc1608}
+use Rattle.model.specs.Busy.{State}
+use Rattle.model.specs.Instruction.{Instruction, poll}
 use Rattle.model.specs.Call.{Powered, Called, replying}
 use Rattle.model.specs.Reader.{recordsEnd, partAt}
 use Rattle.model.specs.Record.{recordLength}
-use Rattle.laws.specs.Effects.{triesAfter}
-use Rattle.model.specs.Session.{startOf, countOf, frame, all, readFrom, endOf, logOf, Ran}
+use Rattle.model.specs.Log.{entryPlace}
+use Rattle.model.specs.Session.{startOf, countOf, frame, all, readFrom, endOf, initial, fullEntries, Ran}
 
 -- ---- the session
 
--- nothing is refused: the frame is well, the records are these commands and end where the trailer begins, and their log has room
-pub record Accepts (s space : List ℕ) (ks : List Command) : Type 0 where
+-- nothing is refused: the frame is well, the records are these instructions and end where the trailer begins, and a log with every
+-- record answered in full has room
+pub record Accepts (s space : List ℕ) (ks : List Instruction) : Type 0 where
   pub frames : frame s ≡ 0
   pub reads : readFrom (countOf s) s (startOf s) ≡ all ks (recordsEnd (length s))
-  pub room : length (logOf s ks) ≤ length space
+  pub room : fullEntries ks (initial s) + leastLog ≤ length space
 
 -- what is then given back and left: the log at the front of the space, whose other bytes are kept
 abbrev pub accepting : List ℕ → List ℕ → Ran
@@ -33,23 +34,27 @@ empty card = card ++ (bytesOf 4 cardSize ++ (bytesOf 2 0 ++ (0x53 ∷ 0x45 ∷ [
 
 -- ---- its records
 
--- a property of every command of a list
-abbrev pub Every : (Command → Type 0) → List Command → Type 0
+-- a property of every instruction of a list
+abbrev pub Every : (Instruction → Type 0) → List Instruction → Type 0
 Every P [] = Unit {0}
 Every P (k ∷ ks) = P k × Every P ks
 
--- command k of a list, and where the commands before it lead: a card and a state
-abbrev pub commandAt : List Command → ℕ → Command
-commandAt ks k = getD ks k powerCycle
+-- instruction k of a list, and where those before it lead: a card and a state
+abbrev pub instructionAt : List Instruction → ℕ → Instruction
+instructionAt ks k = getD ks k poll
 
-abbrev pub reached : List Command → Powered Volatile → ℕ → Powered Volatile
+abbrev pub reached : List Instruction → Powered State → ℕ → Powered State
 reached ks m k = endOf (take k ks) m
 
 -- the bytes of the record at a place
 abbrev pub recordAt : List ℕ → ℕ → List ℕ
 recordAt s i = take (recordLength (partAt s i)) (partAt s i)
 
--- what a single command leaves that gives a response: it hands out the tries left of the counter that it used, on the card that it leaves
-abbrev pub leaving : Command → Powered Volatile → List ℕ → List ℕ → Called Volatile
-leaving k m answer space =
-    record { card = m .card; reply = replying space (record { state = m .state; answer = answer; tries = triesAfter at88sc1608 k (m .card) }) }
+-- the kind byte of answer k of a log
+abbrev pub kindIn : List ℕ → ℕ → ℕ
+kindIn l k = at l (entryPlace k l 0)
+
+-- what a single command leaves that answers as a kind, gives a response and hands out tries
+abbrev pub leaving : (kind tries : ℕ) → Powered State → (answer space : List ℕ) → Called State
+leaving kind tries m answer space =
+    record { card = m .card; reply = replying kind space (record { state = m .state; answer = answer; tries = tries }) }

@@ -1,4 +1,4 @@
--- Of accepted sessions: what a well frame says of the bytes, that an accepted session has commands, and what it leaves.
+-- Of accepted sessions: what a well frame says of the bytes, that an accepted session has instructions, and what it leaves.
 use Prim.Native.Nat.{ℕ, zero, suc, _+_, _-_, _≤_}
 use mathlib.Core.Bool.{Bool, true, false, cond, not}
 use mathlib.Core.List.{List}
@@ -6,22 +6,22 @@ use mathlib.Core.Path.{_≡_, refl, ap, _∙_}
 use native.Mathlib.Omega.{arith}
 use borrow.Author.Tests.{eqb-true, leb-true, ltb-false, not-false, eq-eqb, le-ltb, le-leb}
 use lib.Dec.{ltb, leb, eqb}
-use lib.ListN.{length}
+use lib.ListN.{length, length-append}
 use lib.Seq.{length-take-le, getD-take}
-use Rattle.model.specs.Sizes.{cardSize, fuseAt, trailerSize, leastSession, greatestSession, mostRecords}
+use Rattle.model.specs.Sizes.{cardSize, fuseAt, trailerSize, leastSession, greatestSession, leastLog, mostRecords}
 use Rattle.model.specs.Lists.{at}
 use Rattle.laws.specs.BoolLaws.{and-left, and-right}
-use Rattle.model.specs.Volatile.{powerUp}
-use Rattle.model.specs.Command.{Command}
+use Rattle.model.specs.Busy.{powerOn}
+use Rattle.model.specs.Instruction.{Instruction}
 use Rattle.model.specs.Call.{Decoded, refused, whole}
 use Rattle.laws.specs.CallLaws.{clear}
 use Rattle.model.specs.Reader.{recordsEnd, partAt, nextOf}
 use Rattle.model.specs.Refusal.{bytesLeft, noSpace}
 use Rattle.laws.specs.Sane.{Good}
 use Rattle.model.specs.Session.{cardOf, startOf, countOf, wrongLength, wrongTrailer, wrongStart, wrongCount, wrongFuses, frame, framed, run}
-use Rattle.model.specs.Session.{Read, stopped, all, onDecoded, more, readFrom, logOf, rejected, written, ended}
+use Rattle.model.specs.Session.{Read, stopped, all, onDecoded, more, readFrom, logOf, initial, fullEntries, rejected, written, ended}
 use Rattle.model.specs.Single.{isFuseByte}
-use Rattle.properties.specs.SessionLaws.{refusal-nonzero}
+use Rattle.properties.specs.SessionLaws.{refusal-nonzero, end-length, full-total, entries-most}
 use Rattle.properties.specs.AcceptedSession.{Accepts, accepting}
 
 -- ---- the frame
@@ -73,12 +73,16 @@ well-framed s f =
     )
 
 -- the session's card, at power-up
-pub card-good : (s : List ℕ) → Framed s → Good (cardOf s) powerUp
+pub card-good : (s : List ℕ) → Framed s → Good (cardOf s) powerOn
 card-good s f =
     record {
-      long = length-take-le cardSize s (let l = f .long in omega arith);
-      stage = rw (getD-take cardSize s fuseAt 0 (omega arith)) (f .stage);
-      range = refl;
+      fit =
+          record {
+            long = length-take-le cardSize s (let l = f .long in omega arith);
+            stage = rw (getD-take cardSize s fuseAt 0 (omega arith)) (f .stage);
+            range = refl;
+          };
+      time = omega arith;
     }
 
 -- ---- the records
@@ -87,41 +91,52 @@ pub read-nonzero : (n : ℕ) (s : List ℕ) (i r : ℕ) → readFrom n s i ≡ s
 read-nonzero zero s i r e z = let w : _≡_ {A = ℕ} 0 1 = cc in omega arith
 read-nonzero (suc n) s i r e z = go (λ j q. read-nonzero n s j r q z) (nextOf s i) refl e
   where
-    go₂ : (k : Command) (x : Read) → (x ≡ stopped r → ⊥) → more k x ≡ stopped r → ⊥
+    go₂ : (k : Instruction) (x : Read) → (x ≡ stopped r → ⊥) → more k x ≡ stopped r → ⊥
     go₂ k (stopped y) h e = h e
     go₂ k (all ks j) h e = let w : _≡_ {A = ℕ} 0 1 = cc in omega arith
 
-    go : ((j : ℕ) → readFrom n s j ≡ stopped r → ⊥) → (d : Decoded Command) → nextOf s i ≡ d
+    go : ((j : ℕ) → readFrom n s j ≡ stopped r → ⊥) → (d : Decoded Instruction) → nextOf s i ≡ d
         → onDecoded d stopped (λ k m. more k (readFrom n s (i + m))) ≡ stopped r → ⊥
     go ih (refused x) q e = let w : x ≡ r = cc in refusal-nonzero (partAt s i) x q (w ∙ z)
     go ih (whole k m) q e = go₂ k (readFrom n s (i + m)) (ih (i + m)) e
 
 -- ---- the session
 
-pub accepted-log : (s space : List ℕ) (ks : List Command) → Accepts s space ks → run s space ≡ accepting (logOf s ks) space
+-- its log is not longer than with every record answered in full, so it has room
+pub log-within : (s space : List ℕ) (ks : List Instruction) → Accepts s space ks → length (logOf s ks) ≤ length space
+log-within s space ks a =
+    let l : leastSession ≤ length s = framed-well s (a .frames) .long in
+    let c = end-length ks (initial s) ∙ length-take-le cardSize s (omega arith) in
+    let m = entries-most ks (initial s) in
+    let f = full-total ks (initial s) in
+    let r = a .room in
+    simp (length-append, c) (omega arith)
+
+pub accepted-log : (s space : List ℕ) (ks : List Instruction) → Accepts s space ks → run s space ≡ accepting (logOf s ks) space
 unfolding run
 accepted-log s space ks a = rw (a .frames, a .reads, eq-eqb (recordsEnd (length s)) _ refl, le-ltb _ _ (a .room))
 
-pub accepted-commands : (s space : List ℕ) → run s space .refusal ≡ 0 → (ks : List Command) × Accepts s space ks
+pub accepted-commands : (s space : List ℕ) → run s space .refusal ≡ 0 → (ks : List Instruction) × Accepts s space ks
 unfolding run
 accepted-commands s space e = on-frame (frame s) refl e
   where
-    on-room : (ks : List Command) (t : Bool) → frame s ≡ 0 → readFrom (countOf s) s (startOf s) ≡ all ks (recordsEnd (length s))
-        → ltb (length space) (length (logOf s ks)) ≡ t → cond t (rejected noSpace space) (accepting (logOf s ks) space) .refusal ≡ 0
-        → (ks : List Command) × Accepts s space ks
+    on-room : (ks : List Instruction) (t : Bool) → frame s ≡ 0 → readFrom (countOf s) s (startOf s) ≡ all ks (recordsEnd (length s))
+        → ltb (length space) (fullEntries ks (initial s) + leastLog) ≡ t → cond t (rejected noSpace space) (accepting (logOf s ks) space) .refusal ≡ 0
+        → (ks : List Instruction) × Accepts s space ks
     on-room ks true f r q e = absurd (let z : ⊥ = omega arith in z)
     on-room ks false f r q e = (ks, record { frames = f; reads = r; room = ltb-false _ _ q })
 
-    on-end : (ks : List Command) (i : ℕ) (t : Bool) → frame s ≡ 0 → readFrom (countOf s) s (startOf s) ≡ all ks i → eqb i (recordsEnd (length s)) ≡ t
-        → cond (not t) (rejected bytesLeft space) (written (logOf s ks) space) .refusal ≡ 0 → (ks : List Command) × Accepts s space ks
+    on-end : (ks : List Instruction) (i : ℕ) (t : Bool) → frame s ≡ 0 → readFrom (countOf s) s (startOf s) ≡ all ks i → eqb i (recordsEnd (length s)) ≡ t
+        → cond (not t) (rejected bytesLeft space) (written (fullEntries ks (initial s) + leastLog) (logOf s ks) space) .refusal ≡ 0
+        → (ks : List Instruction) × Accepts s space ks
     on-end ks i true f r q e =
-        on-room ks (ltb (length space) (length (logOf s ks))) f (r ∙ ap (all ks) (eqb-true i (recordsEnd (length s)) q)) refl e
+        on-room ks (ltb (length space) (fullEntries ks (initial s) + leastLog)) f (r ∙ ap (all ks) (eqb-true i (recordsEnd (length s)) q)) refl e
     on-end ks i false f r q e = absurd (let z : ⊥ = omega arith in z)
 
-    on-read : (x : Read) → frame s ≡ 0 → readFrom (countOf s) s (startOf s) ≡ x → ended s space x .refusal ≡ 0 → (ks : List Command) × Accepts s space ks
+    on-read : (x : Read) → frame s ≡ 0 → readFrom (countOf s) s (startOf s) ≡ x → ended s space x .refusal ≡ 0 → (ks : List Instruction) × Accepts s space ks
     on-read (stopped n) f r e = absurd (read-nonzero (countOf s) s (startOf s) n r e)
     on-read (all ks i) f r e = on-end ks i (eqb i (recordsEnd (length s))) f r refl e
 
-    on-frame : (n : ℕ) → frame s ≡ n → framed s space n .refusal ≡ 0 → (ks : List Command) × Accepts s space ks
+    on-frame : (n : ℕ) → frame s ≡ n → framed s space n .refusal ≡ 0 → (ks : List Instruction) × Accepts s space ks
     on-frame zero f e = on-read (readFrom (countOf s) s (startOf s)) f refl e
     on-frame (suc n) f e = absurd (let z : ⊥ = omega arith in z)

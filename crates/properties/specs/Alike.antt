@@ -12,7 +12,7 @@ use Rattle.model.specs.Sizes.{fuseAt, trailerSize, leastSession, greatestSessio
 use Rattle.model.specs.Lists.{at}
 use Rattle.laws.specs.BoolLaws.{and-left}
 use Rattle.model.specs.Numbers.{numberAt}
-use Rattle.model.specs.Command.{Command}
+use Rattle.model.specs.Instruction.{Instruction}
 use Rattle.model.specs.Call.{Decoded, refused, whole}
 use Rattle.model.specs.Reader.{recordsEnd, partAt, nextOf}
 use Rattle.model.specs.Record.{recordLength, decode}
@@ -44,7 +44,7 @@ module _ (hidden : ℕ → Bool) (in-card : (i : ℕ) → fuseAt ≤ i → hidde
       ap (λ (p : List ℕ). onDecoded (decode p) stopped (λ k m. more k (readFrom n s₁ (i + m)))) (part-same i h)
       ∙ go (λ m. read-same n (i + m) (omega arith)) (nextOf s₂ i)
     where
-      go : ((m : ℕ) → readFrom n s₁ (i + m) ≡ readFrom n s₂ (i + m)) → (d : Decoded Command)
+      go : ((m : ℕ) → readFrom n s₁ (i + m) ≡ readFrom n s₂ (i + m)) → (d : Decoded Instruction)
           → onDecoded d stopped (λ k m. more k (readFrom n s₁ (i + m))) ≡ onDecoded d stopped (λ k m. more k (readFrom n s₂ (i + m)))
       go ih (refused r) = refl
       go ih (whole k m) = ap (more k) (ih m)

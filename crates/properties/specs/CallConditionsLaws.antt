@@ -1,30 +1,32 @@
 -- Of the conditions of a single command: the first that applies is its refusal, and where none applies the record is decoded whole
--- and its command carried out.
+-- and its instruction carried out.
 use Prim.Native.Nat.{ℕ, suc, _≤_}
 use mathlib.Core.Bool.{Bool, true, false, cond, not, _&&_, _||_}
 use mathlib.Core.List.{List, _++_}
 use mathlib.Core.Path.{_≡_, refl, sym, ap, _∙_}
 use native.Mathlib.Omega.{arith}
-use borrow.Author.Tests.{ltb-true, ltb-false, le-ltb, lt-ltb}
-use lib.Dec.{ltb}
+use borrow.Author.Tests.{ltb-true, ltb-false, le-ltb, lt-ltb, le-leb, lt-leb}
+use lib.Dec.{ltb, leb}
 use lib.ListN.{length}
-use Rattle.model.specs.Volatile.{Volatile, Active, none, selector}
-use Rattle.model.specs.Command.{Command}
+use Rattle.model.specs.Volatile.{Active, none, selector}
+use Rattle.model.specs.Busy.{State, isBusy, actsAlways, answeredKind}
+use Rattle.model.specs.Instruction.{Instruction}
 use Rattle.model.specs.At88sc1608.{at88sc1608}
 use Rattle.model.specs.Call.{powered, Decoded, refused, whole, calling, checked, exact}
 use Rattle.model.specs.Call as calls
 use Rattle.laws.specs.CallLaws.{carried-out}
-use Rattle.laws.specs.Effects.{answer-length}
+use Rattle.laws.specs.BusyLaws.{givenAnswer, given-answer, triesGiven}
 use Rattle.model.specs.Record.{recordLength, decode}
-use Rattle.laws.specs.RecordLaws.{accepted}
+use Rattle.laws.specs.RecordLaws.{accepted, decode-kind}
 use Rattle.laws.specs.Sane.{good-check}
 use Rattle.model.specs.Session.{onDecoded, logged, after}
-use Rattle.model.specs.Single.{activeBelow, stateInRange, checkOf, check, apply, admit, command}
+use Rattle.model.specs.Single.{activeBelow, stateInRange, checkOf, check, act, admit, command}
 use Rattle.properties.specs.SessionLaws.{refusal-nonzero}
 use Rattle.properties.specs.Conditions.{recordConditions, responseLength, first, NoneApplies}
 use Rattle.properties.specs.ConditionsLaws.{first-append, Numbered, numbered-append, some, none-first, none-append}
 use Rattle.properties.specs.ConditionsLaws.{record-numbered, first-record, decode-answer}
-use Rattle.properties.specs.CallConditions.{wrongCardLength, wrongFuseByte, selectorAbove, wrongState, givenConditions, endConditions, callConditions}
+use Rattle.properties.specs.CallConditions.{wrongCardLength, wrongFuseByte, selectorAbove, wrongState, ignoredRecord}
+use Rattle.properties.specs.CallConditions.{givenConditions, endConditions, callConditions}
 use Rattle.properties.specs.AcceptedSession.{leaving}
 use Rattle.properties.specs.TriesLaws.{handing}
 
@@ -42,25 +44,36 @@ selector-above : (n : ℕ) (a : Active) → selectorAbove n a ≡ not (activeBel
 selector-above n none = refl
 selector-above n (selector k) = above n k
 
-either : (a b : Bool) → (not a || not b) ≡ not (a && b)
-either true b = refl
-either false b = refl
+either : (a b c : Bool) → (not a || (not b || not c)) ≡ not ((a && b) && c)
+either true true c = refl
+either true false c = refl
+either false b c = refl
 
-wrong-state : (s : Volatile) → wrongState s ≡ not (stateInRange at88sc1608 s)
-wrong-state s = rw (above 7 (s .zone), selector-above 15 (s .active)) (either (ltb (s .zone) 8) (activeBelow 16 (s .active)))
+over : (n k : ℕ) → ltb n k ≡ not (leb k n)
+over n k = go (ltb n k) refl
+  where
+    go : (t : Bool) → ltb n k ≡ t → t ≡ not (leb k n)
+    go true e = let l = ltb-true n k e in rw (lt-leb k n l)
+    go false e = let l = ltb-false n k e in rw (le-leb k n l)
+
+wrong-state : (s : State) → wrongState s ≡ not (stateInRange at88sc1608 s)
+wrong-state s =
+    rw (above 7 (s .volatile .zone), selector-above 15 (s .volatile .active), over 10 (s .busy))
+    (either (ltb (s .volatile .zone) 8) (activeBelow 16 (s .volatile .active)) (leb (s .busy) 10))
 
 -- ---- the refusal
 
 -- the number of a decoded record: its refusal's, or n
-abbrev number : Decoded Command → ℕ → ℕ
+abbrev number : Decoded Instruction → ℕ → ℕ
 number d n = onDecoded d (λ r. r) (λ k m. n)
 
-carried-number : (c : List ℕ) (s : Volatile) (space : List ℕ) (d : Decoded Command) → calls.carried check decode apply c s space d .reply .refusal ≡ number d 0
+carried-number : (c : List ℕ) (s : State) (space : List ℕ) (d : Decoded Instruction)
+    → calls.carried check decode act answeredKind c s space d .reply .refusal ≡ number d 0
 carried-number c s space (refused n) = refl
 carried-number c s space (whole k n) = refl
 
 -- 11, 5, 12
-past-checks : (c : List ℕ) (s : Volatile) (d : Decoded Command) → number (checked (check c s) d) 0 ≡ first (givenConditions c s) (number d 0)
+past-checks : (c : List ℕ) (s : State) (d : Decoded Instruction) → number (checked (check c s) d) 0 ≡ first (givenConditions c s) (number d 0)
 unfolding checkOf
 past-checks c s d = rw (wrong-state s) (go (wrongCardLength c) (wrongFuseByte c) (not (stateInRange at88sc1608 s)))
   where
@@ -70,74 +83,81 @@ past-checks c s d = rw (wrong-state s) (go (wrongCardLength c) (wrongFuseByte c)
     go false false true = refl
     go false false false = refl
 
+-- what is to be written, by the instruction and by the record's bytes
+needed : (s : State) (bytes : List ℕ) (k : Instruction) (n : ℕ) → decode bytes ≡ whole k n
+    → givenAnswer at88sc1608 s k ≡ cond (ignoredRecord s bytes) 0 (responseLength bytes)
+needed s bytes k n e = λ i. cond (isBusy s && not (actsAlways (decode-kind bytes k n e i))) 0 (decode-answer bytes k n e i)
+
 -- the record, 9, 10
-past-record : (c : List ℕ) (s : Volatile) (bytes space : List ℕ) (d : Decoded Command) → decode bytes ≡ d
-    → number (calls.fitting check decode apply c s (length space) (exact bytes d)) 0 ≡ first (recordConditions bytes) (first (endConditions bytes space) 0)
+past-record : (c : List ℕ) (s : State) (bytes space : List ℕ) (d : Decoded Instruction) → decode bytes ≡ d
+    → number (calls.fitting check decode act c s (length space) (exact bytes d)) 0 ≡ first (recordConditions bytes) (first (endConditions s bytes space) 0)
 past-record c s bytes space (refused n) e = sym (first-record bytes _ (refused n) e)
 past-record c s bytes space (whole k n) e =
     rw (
-      first-record bytes (first (endConditions bytes space) 0) (whole k n) e,
+      first-record bytes (first (endConditions s bytes space) 0) (whole k n) e,
       accepted bytes k n e .size,
-      ← (decode-answer bytes k n e),
-      ← (answer-length at88sc1608 c s k),
+      ← (needed s bytes k n e),
+      ← (given-answer at88sc1608 c s k),
     )
-    (go (ltb n (length bytes)) (ltb (length space) (length (apply c s k .report .answer))) refl)
+    (go (ltb n (length bytes)) (ltb (length space) (length (act c s k .report .answer))) refl)
   where
-    go : (a b : Bool) → ltb (length space) (length (apply c s k .report .answer)) ≡ b
-        → number (calls.fitting check decode apply c s (length space) (cond a (refused 9) (whole k n))) 0 ≡ cond a 9 (cond b 10 0)
+    go : (a b : Bool) → ltb (length space) (length (act c s k .report .answer)) ≡ b
+        → number (calls.fitting check decode act c s (length space) (cond a (refused 9) (whole k n))) 0 ≡ cond a 9 (cond b 10 0)
     go true b q = refl
     go false true q = rw q
     go false false q = rw q
 
-pub refusal-first : (c : List ℕ) (s : Volatile) (bytes space : List ℕ)
+pub refusal-first : (c : List ℕ) (s : State) (bytes space : List ℕ)
     → command c s (calling bytes space) .reply .refusal ≡ first (callConditions c s bytes space) 0
 unfolding calls.command calls.admission
 refusal-first c s bytes space =
     carried-number c s space (admit c s (calling bytes space))
-    ∙ past-checks c s (calls.fitting check decode apply c s (length space) (exact bytes (decode bytes)))
+    ∙ past-checks c s (calls.fitting check decode act c s (length space) (exact bytes (decode bytes)))
     ∙ ap (first (givenConditions c s))
-    (past-record c s bytes space (decode bytes) refl ∙ sym (first-append (recordConditions bytes) (endConditions bytes space) 0))
+    (past-record c s bytes space (decode bytes) refl ∙ sym (first-append (recordConditions bytes) (endConditions s bytes space) 0))
 
-pub call-numbered : (c : List ℕ) (s : Volatile) (bytes space : List ℕ) → Numbered (callConditions c s bytes space)
+pub call-numbered : (c : List ℕ) (s : State) (bytes space : List ℕ) → Numbered (callConditions c s bytes space)
 call-numbered c s bytes space = (some _, (some _, (some _, others)))
   where
-    others : Numbered (recordConditions bytes ++ endConditions bytes space)
-    others = numbered-append (recordConditions bytes) (endConditions bytes space) (record-numbered bytes) (some _, (some _, tt))
+    others : Numbered (recordConditions bytes ++ endConditions s bytes space)
+    others = numbered-append (recordConditions bytes) (endConditions s bytes space) (record-numbered bytes) (some _, (some _, tt))
 
 -- ---- where none applies
 
 -- the card and the state pass
-checks-pass : (c : List ℕ) (s : Volatile) → NoneApplies (givenConditions c s) → check c s ≡ 0
+checks-pass : (c : List ℕ) (s : State) → NoneApplies (givenConditions c s) → check c s ≡ 0
 unfolding checkOf
 checks-pass c s n = rw (n .0, n .1 .0, sym (wrong-state s) ∙ n .1 .1 .0)
 
--- all its bytes are the record of a command, and that command is carried out
-abbrev Carried : List ℕ → Volatile → List ℕ → List ℕ → Type 0
+-- all its bytes are the record of an instruction, and that instruction is carried out
+abbrev Carried : List ℕ → State → List ℕ → List ℕ → Type 0
 Carried c s bytes space =
-    (k : Command) × (decode bytes ≡ whole k (length bytes))
-    × (command c s (calling bytes space) ≡ leaving k (after (powered c s) k) (logged (powered c s) k .response) space)
+    (k : Instruction) × (decode bytes ≡ whole k (length bytes))
+    × (command c s (calling bytes space)
+    ≡ leaving (logged (powered c s) k .kind) (triesGiven at88sc1608 s k (after (powered c s) k .card)) (after (powered c s) k)
+    (logged (powered c s) k .response) space)
 
-pub carries : (c : List ℕ) (s : Volatile) (bytes space : List ℕ) → NoneApplies (callConditions c s bytes space) → Carried c s bytes space
+pub carries : (c : List ℕ) (s : State) (bytes space : List ℕ) → NoneApplies (callConditions c s bytes space) → Carried c s bytes space
 carries c s bytes space clean = on-record (decode bytes) refl
   where
-    given : NoneApplies (givenConditions c s) × NoneApplies (recordConditions bytes ++ endConditions bytes space)
-    given = none-append (givenConditions c s) (recordConditions bytes ++ endConditions bytes space) clean
+    given : NoneApplies (givenConditions c s) × NoneApplies (recordConditions bytes ++ endConditions s bytes space)
+    given = none-append (givenConditions c s) (recordConditions bytes ++ endConditions s bytes space) clean
 
-    others : NoneApplies (recordConditions bytes) × NoneApplies (endConditions bytes space)
-    others = none-append (recordConditions bytes) (endConditions bytes space) (given .1)
+    others : NoneApplies (recordConditions bytes) × NoneApplies (endConditions s bytes space)
+    others = none-append (recordConditions bytes) (endConditions s bytes space) (given .1)
 
-    on-record : (d : Decoded Command) → decode bytes ≡ d → Carried c s bytes space
+    on-record : (d : Decoded Instruction) → decode bytes ≡ d → Carried c s bytes space
     on-record (refused n) e =
         absurd (refusal-nonzero bytes n e (sym (first-record bytes 0 (refused n) e) ∙ none-first (recordConditions bytes) (others .0)))
     on-record (whole k n) e =
         let a = accepted bytes k n e in
         let left : length bytes ≤ recordLength bytes = ltb-false (recordLength bytes) (length bytes) (others .1 .0) in
-        let room : responseLength bytes ≤ length space = ltb-false (length space) (responseLength bytes) (others .1 .1 .0) in
+        let room = ltb-false (length space) (cond (ignoredRecord s bytes) 0 (responseLength bytes)) (others .1 .1 .0) in
         let ends : n ≡ length bytes = omega arith in
-        let answer = answer-length at88sc1608 c s k ∙ decode-answer bytes k n e in (
+        let answer = given-answer at88sc1608 c s k ∙ needed s bytes k n e in (
           k,
           e ∙ ap (whole k) ends,
-          carried-out check decode apply c s (calling bytes space) k n
+          carried-out check decode act answeredKind c s (calling bytes space) k n
               (record { checks = checks-pass c s (given .0); decodes = e; exactly = omega arith; fits = omega arith })
-              ∙ handing c s k (good-check c s (checks-pass c s (given .0)) .long) space,
+              ∙ handing c s k (good-check c s (checks-pass c s (given .0)) .fit .long) space,
         )

@@ -38,9 +38,9 @@ recordConditions part =
     ∷ when cutShort (ltb (length part) (recordLength part))
     ∷ []
 
--- how long the response to a record is: of kinds 2, 4, 6 and 8; of all others 0
+-- how long the response to a record is that is not ignored: of kinds 2, 4, 6, 8 and 14; of all others 0
 abbrev pub responseLength : List ℕ → ℕ
 responseLength part =
     cond (eqb (at part 0) 2) 4
     (cond (eqb (at part 0) 4) (cond (eqb (at part 2) 0) 256 (at part 2))
-    (cond (eqb (at part 0) 6) (at part 2) (cond (eqb (at part 0) 8) 1 0)))
+    (cond (eqb (at part 0) 6) (at part 2) (cond (eqb (at part 0) 8) 1 (cond (eqb (at part 0) 14) 1 0))))

@@ -8,10 +8,10 @@ use native.Mathlib.Omega.{arith}
 use lib.Dec.{ltb, eqb}
 use lib.ListN.{length}
 use Rattle.model.specs.Lists.{at}
-use Rattle.model.specs.Command.{Command}
+use Rattle.model.specs.Instruction.{Instruction}
 use Rattle.model.specs.At88sc1608.{at88sc1608}
 use Rattle.model.specs.Call.{Decoded, refused, whole}
-use Rattle.laws.specs.Effects.{answerLength}
+use Rattle.laws.specs.BusyLaws.{fullAnswer}
 use Rattle.model.specs.Record.{kinds, known, inRange, made, dataAt, recordLength, decode}
 use Rattle.laws.specs.KindLaws.{each-kind}
 use Rattle.laws.specs.RecordLaws.{accepted}
@@ -61,15 +61,15 @@ none-append (x ∷ xs) ys n = let r = none-append xs ys (n .1) in ((n .0, r .0),
 pub record-numbered : (part : List ℕ) → Numbered (recordConditions part)
 record-numbered part = (some _, (some _, (some _, (some _, (some _, tt)))))
 
-pub first-record : (part : List ℕ) (n : ℕ) (d : Decoded Command) → decode part ≡ d
+pub first-record : (part : List ℕ) (n : ℕ) (d : Decoded Instruction) → decode part ≡ d
     → first (recordConditions part) n ≡ onDecoded d (λ r. r) (λ k m. n)
 unfolding decode
 first-record part n d e =
     go (eqb (length part) 0) (not (known (at part 0))) (ltb (length part) (dataAt part))
     (not (inRange (at part 0) (at part 1) (at part 2))) (ltb (length part) (recordLength part)) _ _
-    ∙ ap (λ (x : Decoded Command). onDecoded x (λ r. r) (λ k m. n)) e
+    ∙ ap (λ (x : Decoded Instruction). onDecoded x (λ r. r) (λ k m. n)) e
   where
-    go : (a b c d f : Bool) (k : Command) (m : ℕ) → cond a 8 (cond b 6 (cond c 8 (cond d 7 (cond f 8 n))))
+    go : (a b c d f : Bool) (k : Instruction) (m : ℕ) → cond a 8 (cond b 6 (cond c 8 (cond d 7 (cond f 8 n))))
         ≡ onDecoded (cond a (refused 8) (cond b (refused 6) (cond c (refused 8) (cond d (refused 7) (cond f (refused 8) (whole k m))))))
         (λ r. r) (λ k m. n)
     go true b c d f k m = refl
@@ -79,17 +79,17 @@ first-record part n d e =
     go false false false false true k m = refl
     go false false false false false k m = refl
 
--- how long the answer of a kind with a field n is
+-- how long the answer of a kind with a field n is, in full
 abbrev answerOf : ℕ → ℕ → ℕ
-answerOf kind n = cond (eqb kind 2) 4 (cond (eqb kind 4) (cond (eqb n 0) 256 n) (cond (eqb kind 6) n (cond (eqb kind 8) 1 0)))
+answerOf kind n = cond (eqb kind 2) 4 (cond (eqb kind 4) (cond (eqb n 0) 256 n) (cond (eqb kind 6) n (cond (eqb kind 8) 1 (cond (eqb kind 14) 1 0))))
 
-made-answer : (a n : ℕ) (xs : List ℕ) (kind : ℕ) → known kind ≡ true → answerLength at88sc1608 (made kind a n xs) ≡ answerOf kind n
+made-answer : (a n : ℕ) (xs : List ℕ) (kind : ℕ) → known kind ≡ true → fullAnswer at88sc1608 (made kind a n xs) ≡ answerOf kind n
 unfolding kinds made
 made-answer a n xs =
-    each-kind (λ kind. answerLength at88sc1608 (made kind a n xs) ≡ answerOf kind n)
-    refl refl refl refl refl refl refl refl refl refl refl refl
+    each-kind (λ kind. fullAnswer at88sc1608 (made kind a n xs) ≡ answerOf kind n)
+    refl refl refl refl refl refl refl refl refl refl refl refl refl refl
 
-pub decode-answer : (part : List ℕ) (k : Command) (m : ℕ) → decode part ≡ whole k m → answerLength at88sc1608 k ≡ responseLength part
+pub decode-answer : (part : List ℕ) (k : Instruction) (m : ℕ) → decode part ≡ whole k m → fullAnswer at88sc1608 k ≡ responseLength part
 decode-answer part k m e =
     let a = accepted part k m e in
-    ap (answerLength at88sc1608) (sym (a .command)) ∙ made-answer (at part 1) (at part 2) _ (at part 0) (a .kind)
+    ap (fullAnswer at88sc1608) (sym (a .command)) ∙ made-answer (at part 1) (at part 2) _ (at part 0) (a .kind)

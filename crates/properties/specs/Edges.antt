@@ -13,7 +13,7 @@ use Rattle.model.specs.Log.{logTrailer}
 use Rattle.model.specs.Numbers.{bytesOf}
 use Rattle.laws.specs.NumberLaws.{number-append}
 use Rattle.model.specs.Refusal.{sessionLength}
-use Rattle.model.specs.Session.{cardOf, startOf, countOf, frame, rejected, run}
+use Rattle.model.specs.Session.{startOf, countOf, frame, rejected, run}
 use Rattle.model.specs.Single.{isFuseByte}
 use Rattle.properties.specs.AcceptedSession.{accepting, empty}
 use Rattle.properties.specs.AcceptedSessionLaws.{well-framed, accepted-log}
@@ -29,7 +29,7 @@ empty-log card space l f h =
     (record {
       frames = well;
       reads = rw (count, start, long);
-      room = rw (length-append (cardOf s) (logTrailer 0 0), take-at card tail cardSize l, l) h;
+      room = h;
     })
     ∙ ap (λ (c : List ℕ). accepting (c ++ logTrailer 0 0) space) (take-at card tail cardSize l)
   where

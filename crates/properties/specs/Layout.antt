@@ -77,7 +77,7 @@ module _ (l : List ℕ) (bytes : Bytes l) where
   all-fit zero i end h e = tt
   all-fit (suc n) i end h e =
       let w = entered l i end (and-left (entryOk l i end) _ e) in
-      (w .kind, rw (response-length i end h w) (w .fits), all-fit n (nextEntry l i) end h (and-right (entryOk l i end) _ e))
+      (rw (response-length i end h w) (w .fits), all-fit n (nextEntry l i) end h (and-right (entryOk l i end) _ e))
 
   -- ---- the whole log
 

@@ -15,6 +15,7 @@ pub mod LogReading
 pub mod TriesLeft
 pub mod ClosedReads
 pub mod PasswordWords
+pub mod BusyTimes
 pub mod SessionSecrecy
 -- what proves them: of sessions and of refusals
 pub mod SessionLaws
@@ -22,6 +23,7 @@ pub mod AcceptedSessionLaws
 pub mod Edges
 pub mod RefusedLaws
 pub mod TriesLaws
+pub mod BusyTimesLaws
 pub mod ConditionsLaws
 pub mod SessionConditionsLaws
 pub mod CallConditionsLaws

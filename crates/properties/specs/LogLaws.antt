@@ -11,28 +11,24 @@ use lib.ListN.{length}
 use Rattle.model.specs.Sizes.{fuseAt, leastLog, mostRecords}
 use Rattle.model.specs.Lists.{at}
 use Rattle.laws.specs.BoolLaws.{and-left, and-right}
-use Rattle.model.specs.Log.{lengthAt, nextEntry, entryOk, entriesOk, entryPlace, countOf, offsetOf, trailerOk, valid, find, located, missing}
-use Rattle.model.specs.Record.{known, lengthFits}
+use Rattle.model.specs.Log.{entryFits, lengthAt, nextEntry, entryOk, entriesOk, entryPlace, countOf, offsetOf, trailerOk, valid, find, located, missing}
 use Rattle.model.specs.Refusal.{notALog, noSuchAnswer}
 use Rattle.model.specs.Single.{isFuseByte}
 
 -- an entry that is well
 pub record Entered (l : List ℕ) (i end : ℕ) : Type 0 where
   pub header : i + 3 ≤ end
-  pub kind : known (at l i) ≡ true
-  pub fits : lengthFits (at l i) (lengthAt l i) ≡ true
+  pub fits : entryFits (at l i) (lengthAt l i) ≡ true
   pub next : nextEntry l i ≤ end
 
 pub entered : (l : List ℕ) (i end : ℕ) → entryOk l i end ≡ true → Entered l i end
 unfolding entryOk
 entered l i end e =
     let p = and-right (leb (i + 3) end) _ e in
-    let q = and-right (known (at l i)) _ p in
     record {
       header = leb-true _ _ (and-left (leb (i + 3) end) _ e);
-      kind = and-left (known (at l i)) _ p;
-      fits = and-left (lengthFits (at l i) (lengthAt l i)) _ q;
-      next = leb-true _ _ (and-right (lengthFits (at l i) (lengthAt l i)) _ q);
+      fits = and-left (entryFits (at l i) (lengthAt l i)) _ p;
+      next = leb-true _ _ (and-right (entryFits (at l i) (lengthAt l i)) _ p);
     }
 
 -- every entry ends by the end of them all
@@ -69,7 +65,7 @@ trailed l e =
 -- and both the other way round
 pub entry-well : (l : List ℕ) (i end : ℕ) → Entered l i end → entryOk l i end ≡ true
 unfolding entryOk
-entry-well l i end w = rw (le-leb _ _ (w .header), w .kind, w .fits, le-leb _ _ (w .next))
+entry-well l i end w = rw (le-leb _ _ (w .header), w .fits, le-leb _ _ (w .next))
 
 pub trailer-well : (l : List ℕ) → Trailed l → trailerOk l ≡ true
 unfolding trailerOk

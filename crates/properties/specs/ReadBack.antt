@@ -11,24 +11,30 @@ use lib.ListN.{length, take, drop, List·getD-eq-default, length-take}
 use lib.Seq.{getD-take, getD-drop}
 use Rattle.model.specs.Sizes.{cardSize}
 use Rattle.model.specs.Lists.{at, Bytes}
-use Rattle.model.specs.Volatile.{Volatile}
-use Rattle.model.specs.Command.{Command}
+use Rattle.model.specs.Busy.{State}
+use Rattle.model.specs.Instruction.{Instruction}
 use Rattle.model.specs.Call.{Powered}
 use Rattle.model.specs.Log.{LaidOut, valid, find, missing, answerIn}
 use Rattle.model.specs.Log as log
 use Rattle.model.specs.Reader.{recordsEnd, partAt}
-use Rattle.laws.specs.RecordLaws.{Fields, decode-fields}
+use Rattle.laws.specs.RecordLaws.{Ranged, decode-ranged}
 use Rattle.model.specs.Refusal.{noSuchAnswer}
 use Rattle.laws.specs.Sane.{Good}
 use Rattle.model.specs.Session.{startOf, countOf, logged, after, entriesOf, endOf, logOf, initial}
-use Rattle.properties.specs.Written.{responseOf, written-valid, written-answer, written-none, written-card, count-is}
+use Rattle.properties.specs.Written.{kindOfEntry, responseOf, written-valid, written-kind, written-answer, written-none, written-card, count-is}
 use Rattle.properties.specs.SessionLaws.{Logs, decode-logs, Readings, readings, end-good, entries-length, entries-fit}
-use Rattle.properties.specs.AcceptedSession.{Accepts, reached, commandAt}
+use Rattle.properties.specs.AcceptedSession.{Accepts, reached, instructionAt, kindIn}
 use Rattle.properties.specs.AcceptedSessionLaws.{Framed, framed-well, card-good}
 
--- what command k logs
-pub response-is : (ks : List Command) (m : Powered Volatile) (k : ℕ) → k < length ks
-    → responseOf (entriesOf ks m) k ≡ logged (reached ks m k) (commandAt ks k) .response
+-- what instruction k logs
+pub kind-is : (ks : List Instruction) (m : Powered State) (k : ℕ) → k < length ks
+    → kindOfEntry (entriesOf ks m) k ≡ logged (reached ks m k) (instructionAt ks k) .kind
+kind-is [] m k h = absurd (let z : ⊥ = omega arith in z)
+kind-is (x ∷ ks) m zero h = refl
+kind-is (x ∷ ks) m (suc k) h = kind-is ks (after m x) k (le-of-suc-le-suc h)
+
+pub response-is : (ks : List Instruction) (m : Powered State) (k : ℕ) → k < length ks
+    → responseOf (entriesOf ks m) k ≡ logged (reached ks m k) (instructionAt ks k) .response
 response-is [] m k h = absurd (let z : ⊥ = omega arith in z)
 response-is (x ∷ ks) m zero h = refl
 response-is (x ∷ ks) m (suc k) h = response-is ks (after m x) k (le-of-suc-le-suc h)
@@ -46,13 +52,13 @@ part-bytes s b i j = go (ltb j (recordsEnd (length s) - i)) refl
         let l : length (partAt s i) ≤ j = omega arith in
         rw (List·getD-eq-default (partAt s i) 0 l) (omega arith)
 
-module _ (s space : List ℕ) (ks : List Command) (bytes : Bytes s) (a : Accepts s space ks) where
+module _ (s space : List ℕ) (ks : List Instruction) (bytes : Bytes s) (a : Accepts s space ks) where
   framed : Framed s
   framed = framed-well s (a .frames)
 
-  pub all-fields : Readings Fields (countOf s) s ks (recordsEnd (length s))
-  all-fields =
-      readings Fields s (λ i k m e. decode-fields (partAt s i) k m e) (countOf s) (startOf s) ks (recordsEnd (length s)) (framed .high) (a .reads)
+  pub all-ranged : Readings Ranged (countOf s) s ks (recordsEnd (length s))
+  all-ranged =
+      readings Ranged s (λ i k m e. decode-ranged (partAt s i) k m e) (countOf s) (startOf s) ks (recordsEnd (length s)) (framed .high) (a .reads)
 
   all-logs : Readings Logs (countOf s) s ks (recordsEnd (length s))
   all-logs =
@@ -60,15 +66,15 @@ module _ (s space : List ℕ) (ks : List Command) (bytes : Bytes s) (a : Accepts
       (countOf s) (startOf s) ks (recordsEnd (length s)) (framed .high) (a .reads)
 
   pub final-good : Good (endOf ks (initial s) .card) (endOf ks (initial s) .state)
-  final-good = end-good ks (initial s) (all-fields .every) (card-good s framed)
+  final-good = end-good ks (initial s) (all-ranged .every) (card-good s framed)
 
   pub laid-out : LaidOut (entriesOf ks (initial s)) (endOf ks (initial s) .card) (logOf s ks)
   laid-out =
       record {
-        few = rw (entries-length ks (initial s), all-fields .number) (framed .few);
+        few = rw (entries-length ks (initial s), all-ranged .number) (framed .few);
         fit = entries-fit ks (initial s) (all-logs .every);
-        long = final-good .long;
-        stage = final-good .stage;
+        long = final-good .fit .long;
+        stage = final-good .fit .stage;
         same = refl;
       }
 
@@ -76,17 +82,22 @@ module _ (s space : List ℕ) (ks : List Command) (bytes : Bytes s) (a : Accepts
   valid-back = written-valid (entriesOf ks (initial s)) (endOf ks (initial s) .card) (logOf s ks) laid-out
 
   pub count-back : log.countOf (logOf s ks) ≡ countOf s
-  count-back = count-is (entriesOf ks (initial s)) (endOf ks (initial s) .card) (logOf s ks) laid-out ∙ entries-length ks (initial s) ∙ all-fields .number
+  count-back = count-is (entriesOf ks (initial s)) (endOf ks (initial s) .card) (logOf s ks) laid-out ∙ entries-length ks (initial s) ∙ all-ranged .number
 
   pub answer-back : (k : ℕ) → k < countOf s
-      → answerIn (logOf s ks) (find (logOf s ks) k) ≡ logged (reached ks (initial s) k) (commandAt ks k) .response
+      → answerIn (logOf s ks) (find (logOf s ks) k) ≡ logged (reached ks (initial s) k) (instructionAt ks k) .response
   answer-back k h =
-      written-answer (entriesOf ks (initial s)) (endOf ks (initial s) .card) (logOf s ks) laid-out k (rw (entries-length ks (initial s), all-fields .number) h)
-      ∙ response-is ks (initial s) k (rw (all-fields .number) h)
+      written-answer (entriesOf ks (initial s)) (endOf ks (initial s) .card) (logOf s ks) laid-out k (rw (entries-length ks (initial s), all-ranged .number) h)
+      ∙ response-is ks (initial s) k (rw (all-ranged .number) h)
+
+  pub kind-back : (k : ℕ) → k < countOf s → kindIn (logOf s ks) k ≡ logged (reached ks (initial s) k) (instructionAt ks k) .kind
+  kind-back k h =
+      written-kind (entriesOf ks (initial s)) (endOf ks (initial s) .card) (logOf s ks) laid-out k (rw (entries-length ks (initial s), all-ranged .number) h)
+      ∙ kind-is ks (initial s) k (rw (all-ranged .number) h)
 
   pub none-back : (k : ℕ) → countOf s ≤ k → find (logOf s ks) k ≡ missing noSuchAnswer
   none-back k h =
-      written-none (entriesOf ks (initial s)) (endOf ks (initial s) .card) (logOf s ks) laid-out k (rw (entries-length ks (initial s), all-fields .number) h)
+      written-none (entriesOf ks (initial s)) (endOf ks (initial s) .card) (logOf s ks) laid-out k (rw (entries-length ks (initial s), all-ranged .number) h)
 
   pub card-back : take cardSize (drop (log.offsetOf (logOf s ks)) (logOf s ks)) ≡ endOf ks (initial s) .card
   card-back = written-card (entriesOf ks (initial s)) (endOf ks (initial s) .card) (logOf s ks) laid-out

@@ -2,14 +2,14 @@
 use Prim.Native.Nat.{ℕ, suc}
 use mathlib.Core.List.{List}
 use mathlib.Core.Path.{_≡_}
-use Rattle.model.specs.Volatile.{Volatile}
+use Rattle.model.specs.Busy.{State}
 use Rattle.model.specs.Call.{Call, refusing}
 use Rattle.model.specs.Single.{command}
 use Rattle.model.specs.Session.{rejected, run}
 use Rattle.properties.specs.RefusedLaws.{command-keeps, run-keeps}
 
 -- a single command that is refused leaves the card, the state and the response space as they were
-pub refused-command : (c : List ℕ) (s : Volatile) (x : Call) (n : ℕ) → command c s x .reply .refusal ≡ suc n
+pub refused-command : (c : List ℕ) (s : State) (x : Call) (n : ℕ) → command c s x .reply .refusal ≡ suc n
     → command c s x ≡ record { card = c; reply = refusing (suc n) s (x .space) }
 refused-command = command-keeps
 

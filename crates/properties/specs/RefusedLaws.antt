@@ -8,23 +8,23 @@ use lib.Dec.{ltb, eqb}
 use lib.ListN.{length}
 use Rattle.model.specs.Call.{Decoded, refused, whole, Call, refusing}
 use Rattle.model.specs.Call as calls
-use Rattle.model.specs.Command.{Command}
+use Rattle.model.specs.Instruction.{Instruction}
 use Rattle.model.specs.Reader.{recordsEnd}
 use Rattle.model.specs.Record.{decode}
 use Rattle.model.specs.Refusal.{bytesLeft, noSpace}
 use Rattle.model.specs.Session.{startOf, countOf, frame, Read, stopped, all, readFrom, logOf, rejected, written, ended, framed, run}
-use Rattle.model.specs.Single.{check, apply, admit, command}
-use Rattle.model.specs.Volatile.{Volatile}
+use Rattle.model.specs.Single.{check, act, admit, command}
+use Rattle.model.specs.Busy.{State, answeredKind}
 use Rattle.properties.specs.AcceptedSession.{accepting}
 
 -- a single command
-pub command-keeps : (c : List ℕ) (s : Volatile) (x : Call) (n : ℕ) → command c s x .reply .refusal ≡ suc n
+pub command-keeps : (c : List ℕ) (s : State) (x : Call) (n : ℕ) → command c s x .reply .refusal ≡ suc n
     → command c s x ≡ record { card = c; reply = refusing (suc n) s (x .space) }
 unfolding calls.command
 command-keeps c s x n e = go (admit c s x) e
   where
-    go : (d : Decoded Command) → calls.carried check decode apply c s (x .space) d .reply .refusal ≡ suc n
-        → calls.carried check decode apply c s (x .space) d ≡ record { card = c; reply = refusing (suc n) s (x .space) }
+    go : (d : Decoded Instruction) → calls.carried check decode act answeredKind c s (x .space) d .reply .refusal ≡ suc n
+        → calls.carried check decode act answeredKind c s (x .space) d ≡ record { card = c; reply = refusing (suc n) s (x .space) }
     go (refused m) e = ap (λ (r : ℕ). record { card = c; reply = refusing r s (x .space) }) e
     go (whole k m) e = absurd (let z : ⊥ = omega arith in z)
 
@@ -41,14 +41,14 @@ run-keeps s space n e = on-frame (frame s) e
     on-room log true e = number noSpace e
     on-room log false e = absurd (let z : ⊥ = omega arith in z)
 
-    on-end : (log : List ℕ) (t : Bool) → cond (not t) (rejected bytesLeft space) (written log space) .refusal ≡ suc n
-        → cond (not t) (rejected bytesLeft space) (written log space) ≡ rejected (suc n) space
-    on-end log true e = on-room log (ltb (length space) (length log)) e
-    on-end log false e = number bytesLeft e
+    on-end : (full : ℕ) (log : List ℕ) (t : Bool) → cond (not t) (rejected bytesLeft space) (written full log space) .refusal ≡ suc n
+        → cond (not t) (rejected bytesLeft space) (written full log space) ≡ rejected (suc n) space
+    on-end full log true e = on-room log (ltb (length space) full) e
+    on-end full log false e = number bytesLeft e
 
     on-read : (x : Read) → ended s space x .refusal ≡ suc n → ended s space x ≡ rejected (suc n) space
     on-read (stopped m) e = number m e
-    on-read (all ks i) e = on-end (logOf s ks) (eqb i (recordsEnd (length s))) e
+    on-read (all ks i) e = on-end _ (logOf s ks) (eqb i (recordsEnd (length s))) e
 
     on-frame : (m : ℕ) → framed s space m .refusal ≡ suc n → framed s space m ≡ rejected (suc n) space
     on-frame zero e = on-read (readFrom (countOf s) s (startOf s)) e

@@ -1,5 +1,5 @@
 -- A session is accepted exactly when no refusal number applies, and a refused one gets the first that applies; an accepted one gives
--- back and leaves the log of its commands. Then the edges: 2,185 bytes without records log 2,185 bytes; fewer give 1.
+-- back and leaves the log of its records. Then the edges: 2,185 bytes without records log 2,185 bytes; fewer give 1.
 use Prim.Native.Nat.{ℕ, _≤_, _<_}
 use mathlib.Core.Bool.{true}
 use mathlib.Core.List.{List, _++_}
@@ -8,7 +8,7 @@ use mathlib.Core.Path.{_≡_}
 use lib.ListN.{length}
 use Rattle.model.specs.Sizes.{cardSize, fuseAt, leastSession}
 use Rattle.model.specs.Lists.{at}
-use Rattle.model.specs.Command.{Command}
+use Rattle.model.specs.Instruction.{Instruction}
 use Rattle.model.specs.Log.{logTrailer}
 use Rattle.model.specs.Refusal.{sessionLength}
 use Rattle.model.specs.Session.{logOf, rejected, run}
@@ -30,12 +30,12 @@ module _ (s space : List ℕ) where
   pub accepted-iff : (run s space .refusal ≡ 0) ↔ NoneApplies (sessionConditions s space)
   accepted-iff = zero-iff (sessionConditions s space) (session-numbered s space) _ refusal-is
 
-  -- an accepted session has commands, and room for their log
-  pub accepted-run : run s space .refusal ≡ 0 → (ks : List Command) × Accepts s space ks
+  -- an accepted session has instructions, and room for their log with every record answered in full
+  pub accepted-run : run s space .refusal ≡ 0 → (ks : List Instruction) × Accepts s space ks
   accepted-run = accepted-commands s space
 
   -- it gives back the length of that log and leaves it at the front of the log space, whose other bytes are kept
-  pub run-accepted : (ks : List Command) → Accepts s space ks → run s space ≡ accepting (logOf s ks) space
+  pub run-accepted : (ks : List Instruction) → Accepts s space ks → run s space ≡ accepting (logOf s ks) space
   run-accepted = accepted-log s space
 
   -- fewer bytes than a card and a trailer give 1, and the log space is kept

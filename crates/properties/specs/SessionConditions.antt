@@ -32,14 +32,14 @@ abbrev pub recordsConditions : ℕ → List ℕ → ℕ → List Condition
 recordsConditions zero s i = []
 recordsConditions (suc n) s i = recordConditions (partAt s i) ++ recordsConditions n s (i + recordLength (partAt s i))
 
--- how long the entries of n records are: each has three bytes before its response
-abbrev pub entriesLength : ℕ → List ℕ → ℕ → ℕ
-entriesLength zero s i = 0
-entriesLength (suc n) s i = 3 + responseLength (partAt s i) + entriesLength n s (i + recordLength (partAt s i))
+-- how long the entries of n records are, each answered in full, with three bytes before its response
+abbrev pub fullLength : ℕ → List ℕ → ℕ → ℕ
+fullLength zero s i = 0
+fullLength (suc n) s i = 3 + responseLength (partAt s i) + fullLength n s (i + recordLength (partAt s i))
 
--- the log: the entries, the card, the trailer
+-- the log so: the entries, the card, the trailer
 abbrev pub logLength : List ℕ → ℕ
-logLength s = entriesLength (countOf s) s (startOf s) + leastLog
+logLength s = fullLength (countOf s) s (startOf s) + leastLog
 
 -- 9 and 10
 abbrev pub lastConditions : List ℕ → List ℕ → List Condition

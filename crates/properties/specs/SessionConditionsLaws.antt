@@ -1,43 +1,38 @@
 -- Of the conditions of a session: the first that applies is its refusal.
-use Prim.Native.Nat.{ℕ, zero, suc, _+_, _≤_}
+use Prim.Native.Nat.{ℕ, zero, suc, _+_}
 use mathlib.Core.Bool.{Bool, true, false, cond, not}
 use mathlib.Core.List.{List, _++_}
 use mathlib.Core.Path.{_≡_, refl, sym, ap, _∙_}
 use native.Mathlib.Omega.{arith}
-use borrow.Author.Tests.{leb-true, not-false}
-use lib.Dec.{ltb, leb, eqb}
-use lib.ListN.{length, length-append}
-use lib.Seq.{length-take-le}
-use Rattle.model.specs.Sizes.{cardSize, leastSession}
-use Rattle.laws.specs.BoolLaws.{and-left}
-use Rattle.model.specs.Volatile.{Volatile}
-use Rattle.model.specs.Command.{Command}
-use Rattle.model.specs.Call.{Powered, Decoded, refused, whole}
-use Rattle.model.specs.Log.{entriesBytes}
+use lib.Dec.{ltb, eqb}
+use lib.ListN.{length}
+use Rattle.model.specs.Sizes.{leastLog}
+use Rattle.model.specs.Instruction.{Instruction}
+use Rattle.model.specs.Call.{Decoded, refused, whole}
 use Rattle.model.specs.Reader.{recordsEnd, partAt, nextOf}
 use Rattle.model.specs.Record.{recordLength}
 use Rattle.laws.specs.RecordLaws.{accepted}
 use Rattle.model.specs.Refusal.{bytesLeft, noSpace}
 use Rattle.model.specs.Session.{startOf, countOf, wrongLength, wrongTrailer, wrongStart, wrongCount, wrongFuses, frame, framed, run}
-use Rattle.model.specs.Session.{Read, stopped, all, onDecoded, more, readFrom, after, entriesOf, logOf, rejected, ended, initial}
-use Rattle.properties.specs.SessionLaws.{read-first, read-none, entry-length, end-length}
+use Rattle.model.specs.Session.{Read, stopped, all, onDecoded, more, readFrom, logOf, fullEntries, rejected, ended, initial}
+use Rattle.properties.specs.SessionLaws.{read-first, read-none, fullTotal, full-total}
 use Rattle.properties.specs.Conditions.{recordConditions, first}
 use Rattle.properties.specs.ConditionsLaws.{first-append, Numbered, numbered-append, some, record-numbered, first-record, decode-answer}
-use Rattle.properties.specs.SessionConditions.{placePast, recordsConditions, entriesLength, logLength, lastConditions, sessionConditions}
+use Rattle.properties.specs.SessionConditions.{placePast, recordsConditions, fullLength, logLength, lastConditions, sessionConditions}
 use Rattle.properties.specs.AcceptedSession.{accepting}
 
 -- ---- the records in turn
 
--- records that are all accepted: none of their conditions applies, where they end, and how long their entries are
-record Clean (n : ℕ) (s : List ℕ) (i : ℕ) (ks : List Command) (j : ℕ) : Type 0 where
+-- records that are all accepted: none of their conditions applies, where they end, and how long their entries in full are
+record Clean (n : ℕ) (s : List ℕ) (i : ℕ) (ks : List Instruction) (j : ℕ) : Type 0 where
   none : (d : ℕ) → first (recordsConditions n s i) d ≡ d
   place : j ≡ placePast n s i
-  entries : (m : Powered Volatile) → length (entriesBytes (entriesOf ks m)) ≡ entriesLength n s i
+  entries : fullTotal ks ≡ fullLength n s i
 
-records-clean : (n : ℕ) (s : List ℕ) (i : ℕ) (ks : List Command) (j : ℕ) → readFrom n s i ≡ all ks j → Clean n s i ks j
+records-clean : (n : ℕ) (s : List ℕ) (i : ℕ) (ks : List Instruction) (j : ℕ) → readFrom n s i ≡ all ks j → Clean n s i ks j
 records-clean zero s i ks j e =
     let q = read-none s i ks j e in
-    rw (q .0) (record { none = λ d. refl; place = sym (q .1); entries = λ m. refl })
+    rw (q .0) (record { none = λ d. refl; place = sym (q .1); entries = refl })
 records-clean (suc n) s i ks j e =
     let f = read-first n s i ks j e in
     let r = records-clean n s (i + f .size) (f .others) j (f .rest) in
@@ -46,8 +41,7 @@ records-clean (suc n) s i ks j e =
       none = λ d. first-append (recordConditions (partAt s i)) (recordsConditions n s (i + recordLength (partAt s i))) d
           ∙ first-record (partAt s i) _ _ (f .next) ∙ ap (λ (m : ℕ). first (recordsConditions n s (i + m)) d) l ∙ r .none d;
       place = rw l (r .place);
-      entries = λ m. entry-length (f .command) (f .others) m
-          ∙ rw (l, decode-answer (partAt s i) (f .command) (f .size) (f .next), r .entries (after m (f .command)));
+      entries = rw (l, decode-answer (partAt s i) (f .command) (f .size) (f .next), r .entries);
     })
 
 -- records of which one is refused
@@ -57,11 +51,11 @@ first-stopped (suc n) s i r e d =
     first-append (recordConditions (partAt s i)) (recordsConditions n s (i + recordLength (partAt s i))) d
     ∙ go (λ m q. first-stopped n s (i + m) r q d) (nextOf s i) refl e
   where
-    later : (k : Command) (x : Read) → more k x ≡ stopped r → x ≡ stopped r
+    later : (k : Instruction) (x : Read) → more k x ≡ stopped r → x ≡ stopped r
     later k (stopped y) e = e
     later k (all ks j) e = absurd (let z : _≡_ {A = ℕ} 0 1 = cc in let w : ⊥ = omega arith in w)
 
-    go : ((m : ℕ) → readFrom n s (i + m) ≡ stopped r → first (recordsConditions n s (i + m)) d ≡ r) → (x : Decoded Command) → nextOf s i ≡ x
+    go : ((m : ℕ) → readFrom n s (i + m) ≡ stopped r → first (recordsConditions n s (i + m)) d ≡ r) → (x : Decoded Instruction) → nextOf s i ≡ x
         → onDecoded x stopped (λ k m. more k (readFrom n s (i + m))) ≡ stopped r
         → first (recordConditions (partAt s i)) (first (recordsConditions n s (i + recordLength (partAt s i))) d) ≡ r
     go ih (refused x) q e = first-record (partAt s i) _ _ q ∙ (let w : x ≡ r = cc in w)
@@ -81,20 +75,18 @@ past-frame s space false false false true e = refl
 past-frame s space false false false false true = refl
 past-frame s space false false false false false = refl
 
-log-length : (s : List ℕ) (ks : List Command) (j : ℕ) → cardSize ≤ length s → readFrom (countOf s) s (startOf s) ≡ all ks j
-    → length (logOf s ks) ≡ logLength s
-log-length s ks j l e =
-    let c = end-length ks (initial s) ∙ length-take-le cardSize s l in
-    simp (length-append, records-clean (countOf s) s (startOf s) ks j e .entries (initial s), c)
+full-length : (s : List ℕ) (ks : List Instruction) (j : ℕ) → readFrom (countOf s) s (startOf s) ≡ all ks j
+    → fullEntries ks (initial s) + leastLog ≡ logLength s
+full-length s ks j e = ap (λ (n : ℕ). n + leastLog) (full-total ks (initial s) ∙ records-clean (countOf s) s (startOf s) ks j e .entries)
 
-past-records : (s space : List ℕ) → cardSize ≤ length s → (x : Read) → readFrom (countOf s) s (startOf s) ≡ x
+past-records : (s space : List ℕ) → (x : Read) → readFrom (countOf s) s (startOf s) ≡ x
     → ended s space x .refusal ≡ first (recordsConditions (countOf s) s (startOf s)) (first (lastConditions s space) 0)
-past-records s space l (stopped r) e = sym (first-stopped (countOf s) s (startOf s) r e _)
-past-records s space l (all ks j) e =
+past-records s space (stopped r) e = sym (first-stopped (countOf s) s (startOf s) r e _)
+past-records s space (all ks j) e =
     let c = records-clean (countOf s) s (startOf s) ks j e in
     rw (c .none (first (lastConditions s space) 0), c .place)
-    (go (eqb (placePast (countOf s) s (startOf s)) (recordsEnd (length s))) (ltb (length space) (length (logOf s ks))) _
-    (λ i. ltb (length space) (log-length s ks j l e i)))
+    (go (eqb (placePast (countOf s) s (startOf s)) (recordsEnd (length s))) (ltb (length space) (fullEntries ks (initial s) + leastLog)) _
+    (λ i. ltb (length space) (full-length s ks j e i)))
   where
     go : (a b c : Bool) → b ≡ c
         → cond (not a) (rejected bytesLeft space) (cond b (rejected noSpace space) (accepting (logOf s ks) space)) .refusal
@@ -107,19 +99,12 @@ pub refusal-first : (s space : List ℕ) → run s space .refusal ≡ first (ses
 unfolding run frame
 refusal-first s space =
     past-frame s space (wrongLength s) (wrongTrailer s) (wrongStart s) (wrongCount s) (wrongFuses s)
-    ∙ under (wrongLength s) refl
+    ∙ ap (λ (n : ℕ). cond (wrongLength s) 1 (rest n))
+    (past-records s space (readFrom (countOf s) s (startOf s)) refl
+    ∙ sym (first-append (recordsConditions (countOf s) s (startOf s)) (lastConditions s space) 0))
   where
     rest : ℕ → ℕ
     rest n = cond (wrongTrailer s) 2 (cond (wrongStart s) 3 (cond (wrongCount s) 4 (cond (wrongFuses s) 5 n)))
-
-    under : (t : Bool) → wrongLength s ≡ t → cond t 1 (rest (framed s space 0 .refusal))
-        ≡ cond t 1 (rest (first (recordsConditions (countOf s) s (startOf s) ++ lastConditions s space) 0))
-    under true e = refl
-    under false e =
-        let l : leastSession ≤ length s = leb-true _ _ (and-left (leb leastSession (length s)) _ (not-false _ e)) in
-        ap rest
-        (past-records s space (omega arith) (readFrom (countOf s) s (startOf s)) refl
-        ∙ sym (first-append (recordsConditions (countOf s) s (startOf s)) (lastConditions s space) 0))
 
 records-numbered : (n : ℕ) (s : List ℕ) (i : ℕ) → Numbered (recordsConditions n s i)
 records-numbered zero s i = tt

@@ -11,6 +11,7 @@ use lib.Seq.{getD-append-add, length-take-le, getD-take}
 use Rattle.model.specs.Sizes.{cardSize, fuseAt, leastLog}
 use Rattle.model.specs.Lists.{at}
 use Rattle.model.specs.Command.{Command}
+use Rattle.model.specs.Instruction.{Instruction}
 use Rattle.model.specs.Device.{counterPlace}
 use Rattle.model.specs.At88sc1608.{at88sc1608}
 use Rattle.model.specs.Access.{rpe, ate, passwordSet}
@@ -18,19 +19,19 @@ use Rattle.model.specs.Call.{Call}
 use Rattle.model.specs.Log.{Entry, entriesBytes, logTrailer, logBytes}
 use Rattle.model.specs.Reader.{recordsEnd}
 use Rattle.model.specs.Refusal.{bytesLeft, noSpace}
-use Rattle.model.specs.Session.{cardOf, startOf, countOf, frame, Read, stopped, all, commandsIn, readFrom, entriesOf, endOf, logOf, initial}
+use Rattle.model.specs.Session.{cardOf, startOf, countOf, frame, Read, stopped, all, instructionsIn, readFrom, entriesOf, endOf, logOf, fullEntries, initial}
 use Rattle.model.specs.Session.{rejected, written, ended, framed, run}
 use Rattle.model.specs.Single.{replies, final}
 use Rattle.secrecy.specs.Secret.{Sealed, register, inZone, inZoneOrPasswords, AgreeOutside}
-use Rattle.secrecy.specs.Secret.{PresentsNeither, AcceptsNot, Throughout, Indistinguishable}
+use Rattle.secrecy.specs.Secret.{PresentsNeither, AcceptsNot, OnCommand, Throughout, Indistinguishable}
 use Rattle.secrecy.specs.ReadPassword as read
 use Rattle.secrecy.specs.Authentication as authentication
 use Rattle.secrecy.specs.CardSecrecy as calls
 use Rattle.properties.specs.AcceptedSession.{Accepts, accepting}
-use Rattle.properties.specs.SessionSecret.{inFinalCard, RunAlike, triesIn, RecordsAlike, SessionsAlike, EveryRecord}
-use Rattle.properties.specs.SessionLaws.{end-length, entries-long}
+use Rattle.properties.specs.SessionSecret.{inFinalCard, RunAlike, triesIn, statesIn, RecordsAlike, SessionsAlike, EveryRecord}
+use Rattle.properties.specs.SessionLaws.{end-length, full-total}
 use Rattle.properties.specs.AcceptedSessionLaws.{framed-well, card-good}
-use Rattle.properties.specs.AsCalls.{callsFrom, entriesFrom, triesFrom, Same, as-calls}
+use Rattle.properties.specs.AsCalls.{callsFrom, entriesFrom, triesFrom, statesFrom, Same, as-calls}
 use Rattle.properties.specs.Alike.{frame-same, read-same, calls-same, start-same, count-same}
 
 -- ---- lists that agree outside a part in their midst
@@ -127,8 +128,8 @@ accepted-alike hidden es₁ es₂ c₁ c₂ space e l a =
 module _ (hidden : ℕ → Bool) (in-card : (i : ℕ) → fuseAt ≤ i → hidden i ≡ false) (s₁ s₂ : List ℕ) (agree : AgreeOutside hidden s₁ s₂)
     (Ok : Command → Type 0) (claim : (xs : List Call) → Throughout Ok xs (cardOf s₁) → Indistinguishable hidden xs (cardOf s₁) (cardOf s₂))
     (space : List ℕ) (every : EveryRecord Ok s₁ space) where
-  -- both sessions run the same commands
-  module _ (ks : List Command) (accepts : Accepts s₁ space ks) (reads₂ : readFrom (countOf s₂) s₂ (startOf s₂) ≡ all ks (recordsEnd (length s₁))) where
+  -- both sessions run the same instructions
+  module _ (ks : List Instruction) (accepts : Accepts s₁ space ks) (reads₂ : readFrom (countOf s₂) s₂ (startOf s₂) ≡ all ks (recordsEnd (length s₁))) where
     long : leastLog ≤ length s₁
     long = framed-well s₁ (accepts .frames) .long
 
@@ -152,17 +153,22 @@ module _ (hidden : ℕ → Bool) (in-card : (i : ℕ) → fuseAt ≤ i → hidde
         (card-good s₂ (framed-well s₂ (sym (frame-same hidden in-card s₁ s₂ agree) ∙ accepts .frames)))
 
     indistinguishable : Indistinguishable hidden xs₁ (cardOf s₁) (cardOf s₂)
-    indistinguishable = claim xs₁ (same₁ .along Ok (every ks accepts))
+    indistinguishable = claim xs₁ (same₁ .along (OnCommand Ok) (every ks accepts))
 
     entries-same : entriesOf ks (initial s₁) ≡ entriesOf ks (initial s₂)
     entries-same =
-        sym (same₁ .entries) ∙ ap (entriesFrom ks) (indistinguishable .observed)
-        ∙ ap (λ (xs : List Call). entriesFrom ks (replies xs (initial s₂))) xs-same ∙ same₂ .entries
+        sym (same₁ .entries) ∙ ap entriesFrom (indistinguishable .observed)
+        ∙ ap (λ (xs : List Call). entriesFrom (replies xs (initial s₂))) xs-same ∙ same₂ .entries
 
     tries-same : triesIn ks (initial s₁) ≡ triesIn ks (initial s₂)
     tries-same =
         sym (same₁ .tries) ∙ ap triesFrom (indistinguishable .observed)
         ∙ ap (λ (xs : List Call). triesFrom (replies xs (initial s₂))) xs-same ∙ same₂ .tries
+
+    states-same : statesIn ks (initial s₁) ≡ statesIn ks (initial s₂)
+    states-same =
+        sym (same₁ .states) ∙ ap statesFrom (indistinguishable .observed)
+        ∙ ap (λ (xs : List Call). statesFrom (replies xs (initial s₂))) xs-same ∙ same₂ .states
 
     card-long : length (endOf ks (initial s₁) .card) ≡ cardSize
     card-long = end-length ks (initial s₁) ∙ length-take-le cardSize s₁ (let l = long in omega arith)
@@ -185,6 +191,7 @@ module _ (hidden : ℕ → Bool) (in-card : (i : ℕ) → fuseAt ≤ i → hidde
         record {
           entries = entries-same;
           tries = tries-same;
+          states = states-same;
           counters = λ n. place-same (counterPlace at88sc1608 n) (indistinguishable .counters n);
           cards = cards-agree;
         }
@@ -196,29 +203,27 @@ module _ (hidden : ℕ → Bool) (in-card : (i : ℕ) → fuseAt ≤ i → hidde
 
   -- ---- the runs
 
-  logs-long : (ks : List Command) → length (logOf s₁ ks) ≡ length (logOf s₂ ks)
-  logs-long ks =
-      let c = end-length ks (initial s₁) ∙ cards-long ∙ sym (end-length ks (initial s₂)) in
-      simp (length-append, entries-long ks (initial s₁) (initial s₂), c)
-    where
-      cards-long : length (cardOf s₁) ≡ length (cardOf s₂)
-      cards-long = length-take cardSize s₁ ∙ ap (min cardSize) (agree .long) ∙ sym (length-take cardSize s₂)
+  abbrev full : List ℕ → List Instruction → ℕ
+  full s ks = fullEntries ks (initial s) + leastLog
 
-  on-room : (ks : List Command) (t : Bool) → frame s₁ ≡ 0 → readFrom (countOf s₁) s₁ (startOf s₁) ≡ all ks (recordsEnd (length s₁))
-      → readFrom (countOf s₂) s₂ (startOf s₂) ≡ all ks (recordsEnd (length s₁)) → ltb (length space) (length (logOf s₁ ks)) ≡ t
+  full-same : (ks : List Instruction) → full s₁ ks ≡ full s₂ ks
+  full-same ks = ap (λ (n : ℕ). n + leastLog) (full-total ks (initial s₁) ∙ sym (full-total ks (initial s₂)))
+
+  on-room : (ks : List Instruction) (t : Bool) → frame s₁ ≡ 0 → readFrom (countOf s₁) s₁ (startOf s₁) ≡ all ks (recordsEnd (length s₁))
+      → readFrom (countOf s₂) s₂ (startOf s₂) ≡ all ks (recordsEnd (length s₁)) → ltb (length space) (full s₁ ks) ≡ t
       → RunAlike hidden (cond t (rejected noSpace space) (accepting (logOf s₁ ks) space)) (cond t (rejected noSpace space) (accepting (logOf s₂ ks) space))
   on-room ks true f r₁ r₂ q = rejected-alike hidden noSpace space
   on-room ks false f r₁ r₂ q = logs-alike ks (record { frames = f; reads = r₁; room = ltb-false _ _ q }) r₂
 
-  on-end : (ks : List Command) (j : ℕ) (t : Bool) → frame s₁ ≡ 0 → readFrom (countOf s₁) s₁ (startOf s₁) ≡ all ks j
+  on-end : (ks : List Instruction) (j : ℕ) (t : Bool) → frame s₁ ≡ 0 → readFrom (countOf s₁) s₁ (startOf s₁) ≡ all ks j
       → readFrom (countOf s₂) s₂ (startOf s₂) ≡ all ks j → eqb j (recordsEnd (length s₁)) ≡ t
-      → RunAlike hidden (cond (not t) (rejected bytesLeft space) (written (logOf s₁ ks) space))
-      (cond (not t) (rejected bytesLeft space) (written (logOf s₂ ks) space))
+      → RunAlike hidden (cond (not t) (rejected bytesLeft space) (written (full s₁ ks) (logOf s₁ ks) space))
+      (cond (not t) (rejected bytesLeft space) (written (full s₂ ks) (logOf s₂ ks) space))
   on-end ks j true f r₁ r₂ q =
       let w : j ≡ recordsEnd (length s₁) = eqb-true _ _ q in
-      subst (λ (n : ℕ). RunAlike hidden (written (logOf s₁ ks) space)
-      (cond (ltb (length space) n) (rejected noSpace space) (accepting (logOf s₂ ks) space))) (logs-long ks)
-      (on-room ks (ltb (length space) (length (logOf s₁ ks))) f (r₁ ∙ ap (all ks) w) (r₂ ∙ ap (all ks) w) refl)
+      subst (λ (n : ℕ). RunAlike hidden (written (full s₁ ks) (logOf s₁ ks) space)
+      (cond (ltb (length space) n) (rejected noSpace space) (accepting (logOf s₂ ks) space))) (full-same ks)
+      (on-room ks (ltb (length space) (full s₁ ks)) f (r₁ ∙ ap (all ks) w) (r₂ ∙ ap (all ks) w) refl)
   on-end ks j false f r₁ r₂ q = rejected-alike hidden bytesLeft space
 
   on-read : (r : Read) → frame s₁ ≡ 0 → readFrom (countOf s₁) s₁ (startOf s₁) ≡ r → readFrom (countOf s₂) s₂ (startOf s₂) ≡ r
@@ -226,7 +231,7 @@ module _ (hidden : ℕ → Bool) (in-card : (i : ℕ) → fuseAt ≤ i → hidde
   on-read (stopped n) f r₁ r₂ = rejected-alike hidden n space
   on-read (all ks j) f r₁ r₂ =
       subst (λ (n : ℕ). RunAlike hidden (ended s₁ space (all ks j))
-      (cond (not (eqb j (recordsEnd n))) (rejected bytesLeft space) (written (logOf s₂ ks) space))) (agree .long)
+      (cond (not (eqb j (recordsEnd n))) (rejected bytesLeft space) (written (full s₂ ks) (logOf s₂ ks) space))) (agree .long)
       (on-end ks j (eqb j (recordsEnd (length s₁))) f r₁ r₂ refl)
 
   reads-same : frame s₁ ≡ 0 → readFrom (countOf s₁) s₁ (startOf s₁) ≡ readFrom (countOf s₂) s₂ (startOf s₂)
@@ -252,10 +257,11 @@ module _ (hidden : ℕ → Bool) (in-card : (i : ℕ) → fuseAt ≤ i → hidde
   pub alike : SessionsAlike hidden s₁ s₂ space
   alike = record { runs = runs-alike; records = λ ks₁ ks₂ a₁ a₂. same-records ks₁ ks₂ a₁ a₂ }
     where
-      same-records : (ks₁ ks₂ : List Command) → Accepts s₁ space ks₁ → Accepts s₂ space ks₂ → RecordsAlike hidden ks₁ ks₂ (initial s₁) (initial s₂)
+      same-records : (ks₁ ks₂ : List Instruction) → Accepts s₁ space ks₁ → Accepts s₂ space ks₂ → RecordsAlike hidden ks₁ ks₂ (initial s₁) (initial s₂)
       same-records ks₁ ks₂ a₁ a₂ =
           let q = sym (reads-same (a₁ .frames)) ∙ a₁ .reads in
-          subst (λ (ks : List Command). RecordsAlike hidden ks₁ ks (initial s₁) (initial s₂)) (ap commandsIn (sym q ∙ a₂ .reads)) (records-alike ks₁ a₁ q)
+          subst (λ (ks : List Instruction). RecordsAlike hidden ks₁ ks (initial s₁) (initial s₂)) (ap instructionsIn (sym q ∙ a₂ .reads))
+          (records-alike ks₁ a₁ q)
 
 -- ---- the AT88SC1608
 

@@ -7,14 +7,15 @@ use mathlib.Core.Path.{_≡_}
 use lib.Dec.{leb}
 use Rattle.model.specs.Sizes.{leastLog}
 use Rattle.model.specs.Lists.{at}
-use Rattle.model.specs.Volatile.{Volatile}
+use Rattle.model.specs.Busy.{State}
 use Rattle.model.specs.Command.{Command}
+use Rattle.model.specs.Instruction.{Instruction}
 use Rattle.model.specs.Device.{Counter, counterPlace}
 use Rattle.model.specs.At88sc1608.{at88sc1608}
 use Rattle.model.specs.Call.{Powered}
-use Rattle.model.specs.Single.{apply}
+use Rattle.model.specs.Single.{act}
 use Rattle.model.specs.Session.{after, entriesOf, endOf, initial, Ran, run}
-use Rattle.secrecy.specs.Secret.{AgreeOutside}
+use Rattle.secrecy.specs.Secret.{AgreeOutside, OnCommand}
 use Rattle.properties.specs.AcceptedSession.{Accepts, Every}
 
 -- the places of a log of n bytes that are hidden places of its final card; none where there is no log
@@ -27,23 +28,30 @@ pub record RunAlike (hidden : ℕ → Bool) (r₁ r₂ : Ran) : Type 0 where
   pub size : r₁ .size ≡ r₂ .size
   pub outside : AgreeOutside (inFinalCard hidden (r₁ .size)) (r₁ .space) (r₂ .space)
 
--- the tries that each command of a list hands out, from a card and a state on
-abbrev pub triesIn : List Command → Powered Volatile → List ℕ
+-- the tries that each instruction of a list hands out, from a card and a state on
+abbrev pub triesIn : List Instruction → Powered State → List ℕ
 triesIn [] m = []
-triesIn (k ∷ ks) m = apply (m .card) (m .state) k .report .tries ∷ triesIn ks (after m k)
+triesIn (k ∷ ks) m = act (m .card) (m .state) k .report .tries ∷ triesIn ks (after m k)
 
--- two lists of commands that are not told apart: each logs and hands out the same, and the cards left have equal counters and agree
-pub record RecordsAlike (hidden : ℕ → Bool) (ks₁ ks₂ : List Command) (m₁ m₂ : Powered Volatile) : Type 0 where
+-- the state that each leaves, its busy time among it
+abbrev pub statesIn : List Instruction → Powered State → List State
+statesIn [] m = []
+statesIn (k ∷ ks) m = after m k .state ∷ statesIn ks (after m k)
+
+-- two lists of instructions that are not told apart: each logs and hands out the same and leaves the same state, so both cards are busy at
+-- the same moments; and the cards left have equal counters and agree
+pub record RecordsAlike (hidden : ℕ → Bool) (ks₁ ks₂ : List Instruction) (m₁ m₂ : Powered State) : Type 0 where
   pub entries : entriesOf ks₁ m₁ ≡ entriesOf ks₂ m₂
   pub tries : triesIn ks₁ m₁ ≡ triesIn ks₂ m₂
+  pub states : statesIn ks₁ m₁ ≡ statesIn ks₂ m₂
   pub counters : (n : Counter) → at (endOf ks₁ m₁ .card) (counterPlace at88sc1608 n) ≡ at (endOf ks₂ m₂ .card) (counterPlace at88sc1608 n)
   pub cards : AgreeOutside hidden (endOf ks₁ m₁ .card) (endOf ks₂ m₂ .card)
 
 -- two sessions that are not told apart: their runs, and if both are accepted their records
 pub record SessionsAlike (hidden : ℕ → Bool) (s₁ s₂ space : List ℕ) : Type 0 where
   pub runs : RunAlike hidden (run s₁ space) (run s₂ space)
-  pub records : (ks₁ ks₂ : List Command) → Accepts s₁ space ks₁ → Accepts s₂ space ks₂ → RecordsAlike hidden ks₁ ks₂ (initial s₁) (initial s₂)
+  pub records : (ks₁ ks₂ : List Instruction) → Accepts s₁ space ks₁ → Accepts s₂ space ks₂ → RecordsAlike hidden ks₁ ks₂ (initial s₁) (initial s₂)
 
 -- every record that a session runs meets a condition
 abbrev pub EveryRecord : (Command → Type 0) → List ℕ → List ℕ → Type 0
-EveryRecord Ok s space = (ks : List Command) → Accepts s space ks → Every Ok ks
+EveryRecord Ok s space = (ks : List Instruction) → Accepts s space ks → Every (OnCommand Ok) ks

@@ -9,12 +9,15 @@ use Rattle.model.specs.Sizes.{cardSize}
 use Rattle.model.specs.Bits.{spentCounter, triesLeft}
 use Rattle.model.specs.Volatile.{Volatile}
 use Rattle.model.specs.Command.{Command}
+use Rattle.model.specs.Instruction.{Instruction}
+use Rattle.model.specs.Busy.{State}
 use Rattle.model.specs.Device.{Counter, ofPassword, ofAuthentication, counterPlace, spent}
 use Rattle.model.specs.At88sc1608.{at88sc1608}
 use Rattle.model.specs.Call.{powered, Report, replying}
 use Rattle.model.specs.Session.{logged, after}
-use Rattle.model.specs.Single.{apply}
+use Rattle.model.specs.Single.{apply, act}
 use Rattle.laws.specs.BitLaws.{bits-most, bits-none, none-zero, cleared-fewer}
+use Rattle.laws.specs.BusyLaws.{triesGiven, given-tries}
 use Rattle.laws.specs.Effects.{triesAfter, hands-out}
 use Rattle.properties.specs.AcceptedSession.{leaving}
 
@@ -39,9 +42,14 @@ pub handed : (c : List ℕ) (s : Volatile) (k : Command) → length c ≡ cardSi
 unfolding triesLeft
 handed c s k l = hands-out at88sc1608 refl c s k (counters-in c l)
 
-pub handing : (c : List ℕ) (s : Volatile) (k : Command) → length c ≡ cardSize → (space : List ℕ)
-    → record { card = apply c s k .card; reply = replying space (apply c s k .report) }
-    ≡ leaving k (after (powered c s) k) (logged (powered c s) k .response) space
+pub given : (c : List ℕ) (s : State) (k : Instruction) → length c ≡ cardSize → act c s k .report .tries ≡ triesGiven at88sc1608 s k (act c s k .card)
+unfolding triesLeft
+given c s k l = given-tries at88sc1608 refl c s k (counters-in c l)
+
+pub handing : (c : List ℕ) (s : State) (k : Instruction) → length c ≡ cardSize → (space : List ℕ)
+    → record { card = act c s k .card; reply = replying (logged (powered c s) k .kind) space (act c s k .report) }
+    ≡ leaving (logged (powered c s) k .kind) (triesGiven at88sc1608 s k (after (powered c s) k .card)) (after (powered c s) k)
+    (logged (powered c s) k .response) space
 handing c s k l space =
-    let r : Report Volatile = apply c s k .report in
-    ap (λ (n : ℕ). record { card = apply c s k .card; reply = replying space (record { state = r .state; answer = r .answer; tries = n }) }) (handed c s k l)
+    let r : Report State = act c s k .report in
+    ap (λ (n : ℕ). leaving (logged (powered c s) k .kind) n (after (powered c s) k) (r .answer) space) (given c s k l)

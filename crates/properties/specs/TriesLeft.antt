@@ -9,11 +9,14 @@ use Rattle.model.specs.Sizes.{cardSize}
 use Rattle.model.specs.Bits.{triesLeft}
 use Rattle.model.specs.Volatile.{Volatile}
 use Rattle.model.specs.Command.{Command}
+use Rattle.model.specs.Instruction.{Instruction}
+use Rattle.model.specs.Busy.{State}
 use Rattle.model.specs.Device.{spent}
 use Rattle.model.specs.At88sc1608.{at88sc1608}
-use Rattle.model.specs.Single.{apply}
+use Rattle.model.specs.Single.{apply, act}
+use Rattle.laws.specs.BusyLaws.{triesGiven}
 use Rattle.laws.specs.Effects.{triesAfter}
-use Rattle.properties.specs.TriesLaws.{most, none, fewer, handed}
+use Rattle.properties.specs.TriesLaws.{most, none, fewer, handed, given}
 
 -- a counter leaves at most eight tries
 pub at-most-eight : (x : ℕ) → triesLeft x ≤ 8
@@ -31,3 +34,8 @@ one-fewer = fewer
 pub handed-out : (c : List ℕ) (s : Volatile) (k : Command) → length c ≡ cardSize
     → apply c s k .report .tries ≡ triesAfter at88sc1608 k (apply c s k .card)
 handed-out = handed
+
+-- and so does a card that can be busy: an ignored record hands out 0
+pub given-out : (c : List ℕ) (s : State) (k : Instruction) → length c ≡ cardSize
+    → act c s k .report .tries ≡ triesGiven at88sc1608 s k (act c s k .card)
+given-out = given

@@ -1,8 +1,8 @@
 -- A log that was written is accepted, and every answer that was written is given back.
 use Prim.Native.Nat.{ℕ, zero, suc, _+_, _-_, _*_, _≤_, _<_}
-use mathlib.Core.Bool.{true, _&&_}
+use mathlib.Core.Bool.{Bool, true, false, _&&_, _||_}
 use mathlib.Core.List.{List, [], _∷_, _++_, append-assoc}
-use mathlib.Core.Path.{_≡_, sym, ap, _∙_}
+use mathlib.Core.Path.{_≡_, refl, sym, ap, _∙_}
 use native.Mathlib.Nat.{add-zero, le-of-suc-le-suc}
 use native.Mathlib.Omega.{arith}
 use borrow.Author.Tests.{eq-eqb, lt-ltb, le-ltb, eqb-true, leb-true}
@@ -15,9 +15,9 @@ use Rattle.laws.specs.BoolLaws.{and-right}
 use Rattle.model.specs.Numbers.{bytesOf, numberAt}
 use Rattle.laws.specs.KindLaws.{each-row}
 use Rattle.laws.specs.NumberLaws.{number-append, number-bytes}
-use Rattle.model.specs.Log.{Entry, entryBytes, entriesBytes, logTrailer, AllFit, LaidOut}
+use Rattle.model.specs.Log.{Entry, entryBytes, entriesBytes, logTrailer, ignoredKind, entryFits, AllFit, LaidOut}
 use Rattle.model.specs.Log.{countOf, offsetOf, lengthAt, nextEntry, entryOk, entriesOk, valid, entryPlace, find, missing, answerIn}
-use Rattle.model.specs.Record.{Kind, kinds, lengthFits}
+use Rattle.model.specs.Record.{Kind, kinds, known, lengthFits}
 use Rattle.model.specs.Refusal.{noSuchAnswer}
 use Rattle.properties.specs.LogLaws.{entry-well, Trailed, trailer-well}
 
@@ -30,6 +30,7 @@ fits-small kind n =
     each-row (λ (r : Kind). r .answers n ≡ true → n ≤ 256)
     (small 0 (omega arith)) (small 4 (omega arith)) (small 0 (omega arith)) (below 256 (omega arith)) (small 0 (omega arith)) (below 128 (omega arith))
     (small 0 (omega arith)) (small 1 (omega arith)) (small 0 (omega arith)) (small 0 (omega arith)) (small 0 (omega arith)) (small 0 (omega arith))
+    (small 0 (omega arith)) (small 1 (omega arith))
     kind
   where
     small : (m : ℕ) → m ≤ 256 → eqb n m ≡ true → n ≤ 256
@@ -37,6 +38,14 @@ fits-small kind n =
 
     below : (m : ℕ) → m ≤ 256 → (leb 1 n && leb n m) ≡ true → n ≤ 256
     below m h e = let q = leb-true n m (and-right (leb 1 n) _ e) in omega arith
+
+pub entry-small : (kind n : ℕ) → entryFits kind n ≡ true → n ≤ 256
+unfolding entryFits
+entry-small kind n = go (known kind && lengthFits kind n) refl
+  where
+    go : (t : Bool) → (known kind && lengthFits kind n) ≡ t → (t || (ignoredKind kind && eqb n 0)) ≡ true → n ≤ 256
+    go true q e = fits-small kind n (and-right (known kind) _ q)
+    go false q e = let z = eqb-true n 0 (and-right (ignoredKind kind) _ e) in omega arith
 
 pub length-entry : (e : Entry) → length (entryBytes e) ≡ 3 + length (e .response)
 length-entry e = ap suc (length-append (bytesOf 2 (length (e .response))) (e .response)) ∙ (omega arith)
@@ -46,8 +55,8 @@ entries-small [] f = omega arith
 entries-small (e ∷ es) f =
     let a = length-append (entryBytes e) (entriesBytes es) in
     let b = length-entry e in
-    let c = fits-small (e .kind) (length (e .response)) (f .1) in
-    let d = entries-small es (f .2) in
+    let c = entry-small (e .kind) (length (e .response)) (f .0) in
+    let d = entries-small es (f .1) in
     omega arith
 
 -- ---- an entry behind a prefix
@@ -79,14 +88,19 @@ module _ (p : List ℕ) (e : Entry) (q : List ℕ) where
 
 -- ---- all entries
 
--- the response of entry k
+-- the kind and the response of entry k
+abbrev pub kindOfEntry : List Entry → ℕ → ℕ
+kindOfEntry [] k = 0
+kindOfEntry (e ∷ es) zero = e .kind
+kindOfEntry (e ∷ es) (suc k) = kindOfEntry es k
+
 abbrev pub responseOf : List Entry → ℕ → List ℕ
 responseOf [] k = []
 responseOf (e ∷ es) zero = e .response
 responseOf (e ∷ es) (suc k) = responseOf es k
 
-pub fits-two : (e : Entry) → lengthFits (e .kind) (length (e .response)) ≡ true → length (e .response) < 65536
-fits-two e f = let c = fits-small (e .kind) (length (e .response)) f in omega arith
+pub fits-two : (e : Entry) → entryFits (e .kind) (length (e .response)) ≡ true → length (e .response) < 65536
+fits-two e f = let c = entry-small (e .kind) (length (e .response)) f in omega arith
 
 -- the first entry, and the others behind it
 pub first-entry : (p : List ℕ) (e : Entry) (es : List Entry) (q : List ℕ) → p ++ (entriesBytes (e ∷ es) ++ q) ≡ whole p e (entriesBytes es ++ q)
@@ -100,7 +114,7 @@ pub entries-well : (es : List Entry) (p q : List ℕ) (end : ℕ) → AllFit es 
 entries-well [] p q end f t = let z : length p ≡ end = sym (add-zero (length p)) ∙ t in eq-eqb (length p) end z
 entries-well (e ∷ es) p q end f t =
     let l : List ℕ = whole p e (entriesBytes es ++ q) in
-    let h : length (e .response) < 65536 = fits-two e (f .1) in
+    let h : length (e .response) < 65536 = fits-two e (f .0) in
     let a = length-append p (entryBytes e) in
     let b = length-append (entryBytes e) (entriesBytes es) in
     let d = length-entry e in
@@ -109,12 +123,11 @@ entries-well (e ∷ es) p q end f t =
     entry-well l (length p) end
     (record {
       header = omega arith;
-      kind = rw (kind-at p e (entriesBytes es ++ q)) (f .0);
-      fits = rw (kind-at p e (entriesBytes es ++ q), length-at p e (entriesBytes es ++ q) h) (f .1);
+      fits = rw (kind-at p e (entriesBytes es ++ q), length-at p e (entriesBytes es ++ q) h) (f .0);
       next = omega arith;
     }) in
     let rest : entriesOk (length es) l (nextEntry l (length p)) end ≡ true =
-    rw n (rw (other-entries p e es q) at (entries-well es (p ++ entryBytes e) q end (f .2) (omega arith))) in
+    rw n (rw (other-entries p e es q) at (entries-well es (p ++ entryBytes e) q end (f .1) (omega arith))) in
     rw (first-entry p e es q, here) rest
 
 -- the place of entry k lies behind the entries before it, and its bytes are its response
@@ -122,10 +135,19 @@ pub responses-back : (es : List Entry) (p q : List ℕ) → AllFit es → (k : �
     → take (lengthAt (p ++ (entriesBytes es ++ q)) (entryPlace k (p ++ (entriesBytes es ++ q)) (length p)))
     (drop (entryPlace k (p ++ (entriesBytes es ++ q)) (length p) + 3) (p ++ (entriesBytes es ++ q))) ≡ responseOf es k
 responses-back [] p q f k h = absurd (let z : ⊥ = omega arith in z)
-responses-back (e ∷ es) p q f zero h = rw (first-entry p e es q) (response-at p e (entriesBytes es ++ q) (fits-two e (f .1)))
+responses-back (e ∷ es) p q f zero h = rw (first-entry p e es q) (response-at p e (entriesBytes es ++ q) (fits-two e (f .0)))
 responses-back (e ∷ es) p q f (suc k) h =
-    rw (first-entry p e es q, next-at p e (entriesBytes es ++ q) (fits-two e (f .1)))
-    (rw (other-entries p e es q) at (responses-back es (p ++ entryBytes e) q (f .2) k (le-of-suc-le-suc h)))
+    rw (first-entry p e es q, next-at p e (entriesBytes es ++ q) (fits-two e (f .0)))
+    (rw (other-entries p e es q) at (responses-back es (p ++ entryBytes e) q (f .1) k (le-of-suc-le-suc h)))
+
+-- and its first byte is its kind
+pub kinds-back : (es : List Entry) (p q : List ℕ) → AllFit es → (k : ℕ) → k < length es
+    → at (p ++ (entriesBytes es ++ q)) (entryPlace k (p ++ (entriesBytes es ++ q)) (length p)) ≡ kindOfEntry es k
+kinds-back [] p q f k h = absurd (let z : ⊥ = omega arith in z)
+kinds-back (e ∷ es) p q f zero h = rw (first-entry p e es q) (kind-at p e (entriesBytes es ++ q))
+kinds-back (e ∷ es) p q f (suc k) h =
+    rw (first-entry p e es q, next-at p e (entriesBytes es ++ q) (fits-two e (f .0)))
+    (rw (other-entries p e es q) at (kinds-back es (p ++ entryBytes e) q (f .1) k (le-of-suc-le-suc h)))
 
 -- ---- the trailer, and the whole log
 
@@ -203,6 +225,10 @@ module _ (es : List Entry) (card l : List ℕ) (w : LaidOut es card l) where
   pub written-answer : (k : ℕ) → k < length es → answerIn l (find l k) ≡ responseOf es k
   unfolding find
   written-answer k h = rw (written-valid, count-is, lt-ltb _ _ h) (rw (w .same) (responses-back es [] (card ++ logTrailer offset (length es)) (w .fit) k h))
+
+  -- its kind is that of entry k
+  pub written-kind : (k : ℕ) → k < length es → at l (entryPlace k l 0) ≡ kindOfEntry es k
+  written-kind k h = rw (w .same) (kinds-back es [] (card ++ logTrailer offset (length es)) (w .fit) k h)
 
   -- and past the last entry there is none
   pub written-none : (k : ℕ) → length es ≤ k → find l k ≡ missing noSuchAnswer

@@ -7,15 +7,15 @@ use borrow.Author.Tests.{lt-ltb, le-ltb, le-leb, lt-leb, eq-eqb, ne-eqb}
 use lib.ListN.{length}
 use Rattle.model.specs.At88sc1608.{at88sc1608}
 use Rattle.model.specs.Call.{refused, whole}
-use Rattle.model.specs.Command.{Command}
+use Rattle.model.specs.Instruction.{Instruction}
 use Rattle.model.specs.Lists.{at}
 use Rattle.model.specs.Record.{fixedFields, inRange, dataLength, made, known, decode}
-use Rattle.laws.specs.Effects.{answerLength}
+use Rattle.laws.specs.BusyLaws.{fullAnswer}
 use Rattle.model.specs.Refusal.{unknownKind, fieldOutOfRange, cutShort}
 use Rattle.record.specs.declared.decoder.Record.{Record}
 use Rattle.record.specs.declared.decoder.Head.{Head}
-use Rattle.record.specs.DecodedRecord.{commandOf, recordOf, headOf, measureOf}
-use Rattle.record.specs.HeadLaws.{refused-of, whole-of, made-answer, head-command}
+use Rattle.record.specs.DecodedRecord.{instructionOf, recordOf, headOf, measureOf}
+use Rattle.record.specs.HeadLaws.{refused-of, whole-of, made-answer, head-instruction}
 
 -- ---- the lengths of a record
 
@@ -30,11 +30,11 @@ module _ (part : List ℕ) where
     kind-zero e = rw (ne-eqb _ _ nonempty, ← kind, eq-eqb _ _ e)
 
     module _ (nonzero : k ≡ 0 → ⊥) where
-      pub kind-large : 12 < k → refused unknownKind ≡ measureOf (decode part)
+      pub kind-large : 14 < k → refused unknownKind ≡ measureOf (decode part)
       unfolding decode
       kind-large e = rw (ne-eqb _ _ nonempty, ← kind, ne-eqb _ _ nonzero, lt-leb _ _ e)
 
-      module _ (s : ℕ) (small : k ≤ 12) (start : s ≡ fixedFields k) where
+      module _ (s : ℕ) (small : k ≤ 14) (start : s ≡ fixedFields k) where
         pub fields-absent : length part < 1 + s → refused cutShort ≡ measureOf (decode part)
         unfolding decode
         fields-absent e = rw (ne-eqb _ _ nonempty, ← kind, ne-eqb _ _ nonzero, le-leb _ _ small, ← start, lt-ltb _ _ e)
@@ -64,7 +64,7 @@ module _ (part : List ℕ) where
                   lt-ltb _ _ e,
                 )
 
-            pub all-there : (l : ℕ) → 1 + s + m ≤ length part → l ≡ answerLength at88sc1608 (made k 0 n []) → whole l (1 + s + m) ≡ measureOf (decode part)
+            pub all-there : (l : ℕ) → 1 + s + m ≤ length part → l ≡ fullAnswer at88sc1608 (made k 0 n []) → whole l (1 + s + m) ≡ measureOf (decode part)
             unfolding decode
             all-there l e q =
                 rw (
@@ -84,7 +84,7 @@ module _ (part : List ℕ) where
                 (ap (λ (x : ℕ). whole x (1 + s + m)) (q ∙ made-answer a n _ k known-kind))
               where
                 known-kind : known k ≡ true
-                known-kind = rw (ne-eqb k 0 nonzero, le-leb k 12 small)
+                known-kind = rw (ne-eqb k 0 nonzero, le-leb k 14 small)
 
 -- ---- the record of a part whose lengths are known
 
@@ -93,9 +93,9 @@ module _ (part : List ℕ) where
   decode-refused n e = refused-of n (decode part) e
 
   pub decode-made : (l n : ℕ) (r : Record) (h : Head) → whole l n ≡ measureOf (decode part) → h ≡ headOf part → r ≡ recordOf (h .kind) (h .a) (h .n)
-      → whole (commandOf part n r) n ≡ decode part
+      → whole (instructionOf part n r) n ≡ decode part
   decode-made l n r h e head made-is =
       let w = whole-of l n (decode part) e in
-      ap (λ (x : Command). whole x n)
-      (ap (commandOf part n) made-is ∙ head-command part (w .0) n (w .1) h head)
+      ap (λ (x : Instruction). whole x n)
+      (ap (instructionOf part n) made-is ∙ head-instruction part (w .0) n (w .1) h head)
       ∙ sym (w .1)

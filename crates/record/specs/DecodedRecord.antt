@@ -8,7 +8,8 @@ use Rattle.model.specs.Lists.{at}
 use Rattle.model.specs.At88sc1608.{at88sc1608}
 use Rattle.model.specs.Call as call
 use Rattle.model.specs.Command as command
-use Rattle.laws.specs.Effects.{answerLength}
+use Rattle.model.specs.Instruction.{Instruction, issue, wait, poll}
+use Rattle.laws.specs.BusyLaws.{fullAnswer}
 use Rattle.record.specs.declared.decoder.Record.{Record}
 use Rattle.record.specs.declared.decoder.Record.the-variants as kind
 use Rattle.record.specs.declared.decoder.Decoded.{Decoded}
@@ -22,24 +23,26 @@ use Rattle.record.specs.RefusalNumber.{refusalNumber}
 abbrev pub between : ℕ → ℕ → List ℕ → List ℕ
 between from to part = take (to - from) (drop from part)
 
--- the command of a record that takes the first n bytes of a part: its data lie between its fixed fields and its end
-abbrev pub commandOf : List ℕ → ℕ → Record → command.Command
-commandOf part n kind.PowerCycle = command.powerCycle
-commandOf part n kind.Reset = command.reset
-commandOf part n (kind.Select z) = command.select (z .0)
-commandOf part n (kind.ReadZone a m) = command.readZone a m
-commandOf part n (kind.WriteZone a) = command.writeZone a (between 3 n part)
-commandOf part n (kind.ReadConfiguration a m) = command.readConfiguration a m
-commandOf part n (kind.WriteConfiguration a) = command.writeConfiguration a (between 3 n part)
-commandOf part n kind.ReadFuses = command.readFuses
-commandOf part n kind.WriteFuses = command.writeFuses
-commandOf part n (kind.VerifyPassword k) = command.verifyPassword k (between 2 n part)
-commandOf part n kind.BeginAuthentication = command.beginAuthentication
-commandOf part n (kind.VerifyAuthentication v) = command.verifyAuthentication v (between 2 n part)
+-- the instruction of a record that takes the first n bytes of a part: its data lie between its fixed fields and its end
+abbrev pub instructionOf : List ℕ → ℕ → Record → Instruction
+instructionOf part n kind.PowerCycle = issue command.powerCycle
+instructionOf part n kind.Reset = issue command.reset
+instructionOf part n (kind.Select z) = issue (command.select (z .0))
+instructionOf part n (kind.ReadZone a m) = issue (command.readZone a m)
+instructionOf part n (kind.WriteZone a) = issue (command.writeZone a (between 3 n part))
+instructionOf part n (kind.ReadConfiguration a m) = issue (command.readConfiguration a m)
+instructionOf part n (kind.WriteConfiguration a) = issue (command.writeConfiguration a (between 3 n part))
+instructionOf part n kind.ReadFuses = issue command.readFuses
+instructionOf part n kind.WriteFuses = issue command.writeFuses
+instructionOf part n (kind.VerifyPassword k) = issue (command.verifyPassword k (between 2 n part))
+instructionOf part n kind.BeginAuthentication = issue command.beginAuthentication
+instructionOf part n (kind.VerifyAuthentication v) = issue (command.verifyAuthentication v (between 2 n part))
+instructionOf part n (kind.Wait m) = wait m
+instructionOf part n kind.Poll = poll
 
-abbrev pub decodedOf : List ℕ → Decoded → call.Decoded command.Command
+abbrev pub decodedOf : List ℕ → Decoded → call.Decoded Instruction
 decodedOf part (decoded.Refused why) = call.refused (refusalNumber why)
-decodedOf part (decoded.Whole r n) = call.whole (commandOf part n r) n
+decodedOf part (decoded.Whole r n) = call.whole (instructionOf part n r) n
 
 -- the record of a known kind with its fixed fields
 unfoldable pub recordOf : ℕ → ℕ → ℕ → Record
@@ -54,16 +57,21 @@ recordOf k a n =
     (cond (eqb k 8) kind.ReadFuses
     (cond (eqb k 9) kind.WriteFuses
     (cond (eqb k 10) (kind.VerifyPassword a)
-    (cond (eqb k 11) kind.BeginAuthentication (kind.VerifyAuthentication (eqb a 1))))))))))))
+    (cond (eqb k 11) kind.BeginAuthentication
+    (cond (eqb k 12) (kind.VerifyAuthentication (eqb a 1)) (cond (eqb k 13) (kind.Wait a) kind.Poll))))))))))))
 
 -- the first three bytes of a part, 0 past its end
 abbrev pub headOf : List ℕ → Head
 headOf part = record { kind = at part 0; a = at part 1; n = at part 2 }
 
--- the lengths alone of what a decoder finds: the answer's in place of the command, and the record's
-abbrev pub measureOf : call.Decoded command.Command → call.Decoded ℕ
+-- the instruction of a record with these first bytes that takes the first n bytes of a part
+abbrev pub askedBy : List ℕ → ℕ → Head → Instruction
+askedBy part n h = instructionOf part n (recordOf (h .kind) (h .a) (h .n))
+
+-- the lengths alone of what a decoder finds: that of the answer in full in place of the instruction, and the record's
+abbrev pub measureOf : call.Decoded Instruction → call.Decoded ℕ
 measureOf (call.refused why) = call.refused why
-measureOf (call.whole k n) = call.whole (answerLength at88sc1608 k) n
+measureOf (call.whole k n) = call.whole (fullAnswer at88sc1608 k) n
 
 abbrev pub measuredOf : Measured → call.Decoded ℕ
 measuredOf (measured.Refused why) = call.refused (refusalNumber why)

@@ -9,72 +9,65 @@ use lib.Dec.{leb, eqb}
 use Rattle.model.specs.Lists.{at}
 use Rattle.model.specs.At88sc1608.{at88sc1608}
 use Rattle.model.specs.Call.{Decoded, refused, whole}
-use Rattle.model.specs.Command.{Command}
+use Rattle.model.specs.Instruction.{Instruction, kindOf}
 use Rattle.model.specs.Record.{kinds, known, fixedFields, dataLength, made, dataAt, recordLength, decode}
-use Rattle.model.specs.Session.{kindOf}
 use Rattle.laws.specs.BoolLaws.{and-right}
 use Rattle.laws.specs.CallLaws.{refused-whole}
-use Rattle.laws.specs.Effects.{answerLength}
+use Rattle.laws.specs.BusyLaws.{fullAnswer}
 use Rattle.laws.specs.KindLaws.{each-kind}
-use Rattle.laws.specs.RecordLaws.{dataOf, Accepted, accepted}
+use Rattle.laws.specs.RecordLaws.{dataOf, Accepted, accepted, decode-kind}
 use Rattle.record.specs.declared.decoder.Head.{Head}
-use Rattle.record.specs.DecodedRecord.{between, commandOf, recordOf, headOf, measureOf}
+use Rattle.record.specs.DecodedRecord.{between, instructionOf, recordOf, headOf, askedBy, measureOf}
 
 -- ---- the lengths
 
-pub refused-of : (n : ℕ) (d : Decoded Command) → refused n ≡ measureOf d → refused n ≡ d
+pub refused-of : (n : ℕ) (d : Decoded Instruction) → refused n ≡ measureOf d → refused n ≡ d
 refused-of n (refused m) e = let q : n ≡ m = cc in ap refused q
-refused-of n (whole k m) e = absurd (refused-whole n (answerLength at88sc1608 k) m e)
+refused-of n (whole k m) e = absurd (refused-whole n (fullAnswer at88sc1608 k) m e)
 
-pub whole-of : (l n : ℕ) (d : Decoded Command) → whole l n ≡ measureOf d → (k : Command) × (d ≡ whole k n) × (l ≡ answerLength at88sc1608 k)
+pub whole-of : (l n : ℕ) (d : Decoded Instruction) → whole l n ≡ measureOf d → (k : Instruction) × (d ≡ whole k n) × (l ≡ fullAnswer at88sc1608 k)
 whole-of l n (refused m) e = absurd (refused-whole m l n (sym e))
 whole-of l n (whole k m) e = let q : n ≡ m = cc in (k, ap (whole k) (sym q), cc)
 
 -- ---- a known kind
 
 module _ (a n : ℕ) (xs : List ℕ) where
-  made-kind : (kind : ℕ) → known kind ≡ true → kindOf (made kind a n xs) ≡ kind
-  unfolding kinds made
-  made-kind =
-      each-kind (λ kind. kindOf (made kind a n xs) ≡ kind)
-      refl refl refl refl refl refl refl refl refl refl refl refl
-
   -- the count alone says how long the answer is
-  pub made-answer : (kind : ℕ) → known kind ≡ true → answerLength at88sc1608 (made kind 0 n []) ≡ answerLength at88sc1608 (made kind a n xs)
+  pub made-answer : (kind : ℕ) → known kind ≡ true → fullAnswer at88sc1608 (made kind 0 n []) ≡ fullAnswer at88sc1608 (made kind a n xs)
   unfolding kinds made
   made-answer =
-      each-kind (λ kind. answerLength at88sc1608 (made kind 0 n []) ≡ answerLength at88sc1608 (made kind a n xs))
-      refl refl refl refl refl refl refl refl refl refl refl refl
+      each-kind (λ kind. fullAnswer at88sc1608 (made kind 0 n []) ≡ fullAnswer at88sc1608 (made kind a n xs))
+      refl refl refl refl refl refl refl refl refl refl refl refl refl refl
 
--- the record is the command with the data behind its fixed fields
+-- the record is the instruction with the data behind its fixed fields
 record-made : (part : List ℕ) (m a n kind : ℕ) → known kind ≡ true
-    → commandOf part m (recordOf kind a n) ≡ made kind a n (between (1 + fixedFields kind) m part)
+    → instructionOf part m (recordOf kind a n) ≡ made kind a n (between (1 + fixedFields kind) m part)
 unfolding recordOf kinds made fixedFields
 record-made part m a n =
-    each-kind (λ kind. commandOf part m (recordOf kind a n) ≡ made kind a n (between (1 + fixedFields kind) m part))
-    refl refl refl refl refl refl refl refl refl refl refl refl
+    each-kind (λ kind. instructionOf part m (recordOf kind a n) ≡ made kind a n (between (1 + fixedFields kind) m part))
+    refl refl refl refl refl refl refl refl refl refl refl refl refl refl
 
 -- ---- the first three bytes of an accepted record
 
-module _ (part : List ℕ) (k : Command) (n : ℕ) (e : decode part ≡ whole k n) (h : Head) (head : h ≡ headOf part) where
+module _ (part : List ℕ) (k : Instruction) (n : ℕ) (e : decode part ≡ whole k n) (h : Head) (head : h ≡ headOf part) where
   abbrev is : Accepted part k n
   is = accepted part k n e
 
-  pub head-known : h .kind ≤ 12
-  head-known = rw head (leb-true (at part 0) 12 (and-right (not (eqb (at part 0) 0)) (leb (at part 0) 12) (is .kind)))
+  pub head-known : h .kind ≤ 14
+  head-known = rw head (leb-true (at part 0) 14 (and-right (not (eqb (at part 0) 0)) (leb (at part 0) 14) (is .kind)))
 
   pub head-kind : h .kind ≡ kindOf k
-  head-kind = rw head (sym (made-kind (at part 1) (at part 2) (dataOf part) (at part 0) (is .kind)) ∙ ap kindOf (is .command))
+  head-kind = rw head (sym (decode-kind part k n e))
 
-  pub head-answer : answerLength at88sc1608 (made (h .kind) 0 (h .n) []) ≡ answerLength at88sc1608 k
+  pub head-answer : fullAnswer at88sc1608 (made (h .kind) 0 (h .n) []) ≡ fullAnswer at88sc1608 k
   head-answer =
-      rw head (made-answer (at part 1) (at part 2) (dataOf part) (at part 0) (is .kind) ∙ ap (answerLength at88sc1608) (is .command))
+      rw head (made-answer (at part 1) (at part 2) (dataOf part) (at part 0) (is .kind) ∙ ap (fullAnswer at88sc1608) (is .command))
 
   pub head-size : 1 + fixedFields (h .kind) + dataLength (h .kind) (h .n) ≡ n
   head-size = rw head (is .size)
 
-  pub head-command : commandOf part n (recordOf (h .kind) (h .a) (h .n)) ≡ k
-  head-command =
+  pub head-instruction : askedBy part n h ≡ k
+  head-instruction =
       rw head
       (record-made part n (at part 1) (at part 2) (at part 0) (is .kind)
       ∙ ap (made (at part 0) (at part 1) (at part 2)) (data-is n (is .size)) ∙ is .command)

@@ -28,6 +28,9 @@ pub enum Record {
     BeginAuthentication,
     // The verdict.
     VerifyAuthentication(bool),
+    // Milliseconds.
+    Wait(u8),
+    Poll,
 }
 
 // A refusal, or a record and its length.
@@ -36,7 +39,7 @@ pub enum Decoded {
     Whole(Record, usize),
 }
 
-// A refusal, or the length of a record's answer and its own.
+// A refusal, or the length of a record's answer in full and its own.
 pub enum Measured {
     Refused(Refusal),
     Whole(u16, usize),
@@ -65,7 +68,9 @@ pub fn made(kind: u8, a: u8, n: u8) -> Record
         9 => Record::WriteFuses,
         10 => Record::VerifyPassword(a),
         11 => Record::BeginAuthentication,
-        _ => Record::VerifyAuthentication(a == 1),
+        12 => Record::VerifyAuthentication(a == 1),
+        13 => Record::Wait(a),
+        _ => Record::Poll,
     }
 }
 
@@ -101,7 +106,7 @@ pub fn measure(part: &[u8]) -> Measured
     if kind == 0 {
         return Measured::Refused(Refusal::UnknownKind);
     }
-    if 12 < kind {
+    if 14 < kind {
         return Measured::Refused(Refusal::UnknownKind);
     }
     let start = 1 + fixed_fields(kind);

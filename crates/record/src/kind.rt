@@ -6,34 +6,41 @@ ghost use Prim.Native.Nat.{_+_, _*_, _/_, _%_, _^_, _≤_};
 ghost use lib.Dec.{eqb, leb};
 ghost use Rattle.model.specs.At88sc1608.{at88sc1608};
 ghost use Rattle.model.specs.Record as model;
-ghost use Rattle.laws.specs.Effects.{answerLength};
+ghost use Rattle.laws.specs.BusyLaws.{fullAnswer};
 use access::rights::either;
 
 // A hexadecimal digit for each kind: a column of this table, read downwards, is a constant. Where n stands the count says it, and
-// the digit is not used.
+// the digit is not used. The last two columns are the lengths that an answer in a log may have: the least, and the bits of the
+// greatest, which has its highest bit alone.
 //
-//                               fixed     bits of the    data     answer
-//   kind                        fields    first field    bytes    bytes
-//   12 verify authentication      1            1           8        0
-//   11 begin authentication       0            8           0        0
-//   10 verify password            1            4           3        0
-//    9 write fuses                0            8           0        0
-//    8 read fuses                 0            8           0        1
-//    7 write configuration        2            7           0 n      0
-//    6 read configuration         2            7           0        0 n
-//    5 write zone                 2            8           0 n      0
-//    4 read zone                  2            8           0        0 n
-//    3 select                     1            3           0        0
-//    2 reset                      0            8           0        4
-//    1 power cycle                0            8           0        0
-//    0 no kind                    0            8           0        0
-const FIXED_FIELDS: u64 = 0x1_0100_2222_1000;
+//                               fixed     bits of the    data     answer    least     bits of the
+//   kind                        fields    first field    bytes    bytes     length    greatest
+//   14 poll                       0            8           0        1         1         1
+//   13 wait                       1            8           0        0         0         0
+//   12 verify authentication      1            1           8        0         0         0
+//   11 begin authentication       0            8           0        0         0         0
+//   10 verify password            1            4           3        0         0         0
+//    9 write fuses                0            8           0        0         0         0
+//    8 read fuses                 0            8           0        1         1         1
+//    7 write configuration        2            7           0 n      0         0         0
+//    6 read configuration         2            7           0        0 n       1         8
+//    5 write zone                 2            8           0 n      0         0         0
+//    4 read zone                  2            8           0        0 n       1         9
+//    3 select                     1            3           0        0         0         0
+//    2 reset                      0            8           0        4         4         3
+//    1 power cycle                0            8           0        0         0         0
+//    0 no kind                    0            8           0        0        15         0
+const FIXED_FIELDS: u64 = 0x011_0100_2222_1000;
 
-const FIRST_FIELD_BITS: u64 = 0x1_8488_7788_3888;
+const FIRST_FIELD_BITS: u64 = 0x881_8488_7788_3888;
 
-const DATA_BYTES: u64 = 0x8_0300_0000_0000;
+const DATA_BYTES: u64 = 0x008_0300_0000_0000;
 
-const ANSWER_BYTES: u64 = 0x0_0001_0000_0400;
+const ANSWER_BYTES: u64 = 0x100_0001_0000_0400;
+
+const LEAST_LENGTH: u64 = 0x100_0001_0101_040F;
+
+const GREATEST_BITS: u64 = 0x100_0001_0809_0300;
 
 pub fn both(a: bool, b: bool) -> bool
     ensures { λ r. ⌜ r ≡ (a && b) ⌝ }
@@ -55,7 +62,7 @@ fn chosen(first: bool, a: usize, b: usize) -> usize
 
 // The digit of a kind in a column.
 fn digit(column: u64, kind: u8) -> usize
-    requires { ⌜ kind ≤ 12 ⌝ }
+    requires { ⌜ kind ≤ 14 ⌝ }
     ensures { λ r. ⌜ r ≡ column / 2 ^ (kind * 4) % 16 ⌝ }
 {
     let from = column >> (kind * 4);
@@ -64,7 +71,7 @@ fn digit(column: u64, kind: u8) -> usize
 
 // helper: how many fixed fields a kind has.
 pub fn fixed_fields(kind: u8) -> usize
-    requires { ⌜ kind ≤ 12 ⌝ }
+    requires { ⌜ kind ≤ 14 ⌝ }
     ensures { λ r. ⌜ r ≡ model.fixedFields kind ⌝ }
 {
     digit(FIXED_FIELDS, kind)
@@ -78,19 +85,23 @@ fn count_in_range(kind: u8, a: u8, n: u8) -> bool
     both(1 <= n, before + n as usize <= 128)
 }
 
-// helper: whether the fixed fields are in range.
+// helper: whether the fixed fields are in range. A wait of no time is not.
 pub fn in_range(kind: u8, a: u8, n: u8) -> bool
-    requires { ⌜ kind ≤ 12 ⌝ }
+    requires { ⌜ kind ≤ 14 ⌝ }
     ensures { λ r. ⌜ r ≡ model.inRange kind a n ⌝ }
 {
     let above = a as usize >> digit(FIRST_FIELD_BITS, kind);
     let uncounted = either(kind < 5, 7 < kind);
-    both(above == 0, either(uncounted, count_in_range(kind, a, n)))
+    let timed = either(kind != 13, 1 <= a);
+    both(
+        timed,
+        both(above == 0, either(uncounted, count_in_range(kind, a, n))),
+    )
 }
 
 // helper: how many data bytes follow.
 pub fn data_length(kind: u8, n: u8) -> usize
-    requires { ⌜ kind ≤ 12 ⌝ }
+    requires { ⌜ kind ≤ 14 ⌝ }
     ensures { λ r. ⌜ r ≡ model.dataLength kind n ⌝ }
 {
     let counted = either(kind == 5, kind == 7);
@@ -99,7 +110,7 @@ pub fn data_length(kind: u8, n: u8) -> usize
 
 // helper: how long a record is.
 pub fn record_length(kind: u8, n: u8) -> usize
-    requires { ⌜ kind ≤ 12 ⌝ }
+    requires { ⌜ kind ≤ 14 ⌝ }
     ensures { λ r. ⌜ r ≡ 1 + model.fixedFields kind + model.dataLength kind n ⌝ }
 {
     1 + fixed_fields(kind) + data_length(kind, n)
@@ -115,12 +126,22 @@ pub fn read_count(n: u8) -> u16
     n as u16
 }
 
-// helper: how long the answer is, on which the first field and the data have no bearing.
+// helper: how long the answer in full is, on which the first field and the data have no bearing.
 pub fn answer_length(kind: u8, n: u8) -> u16
-    requires { ⌜ kind ≤ 12 ⌝ }
-    ensures { λ r. ⌜ r ≡ answerLength at88sc1608 (model.made kind 0 n []) ⌝ }
+    requires { ⌜ kind ≤ 14 ⌝ }
+    ensures { λ r. ⌜ r ≡ fullAnswer at88sc1608 (model.made kind 0 n []) ⌝ }
 {
     let uncounted = digit(ANSWER_BYTES, kind);
     let zone = chosen(kind == 4, read_count(n) as usize, uncounted);
     chosen(kind == 6, n as usize, zone) as u16
+}
+
+// helper: whether this is a kind and a response to it can be this long.
+pub fn length_fits(kind: u8, response: usize) -> bool
+    requires { ⌜ kind ≤ 14 ⌝ }
+    ensures { λ r. ⌜ r ≡ (model.known kind && model.lengthFits kind response) ⌝ }
+{
+    let least = digit(LEAST_LENGTH, kind);
+    let greatest = 65536 >> (17 - digit(GREATEST_BITS, kind));
+    both(least <= response, response <= greatest)
 }

@@ -4,11 +4,12 @@ use mathlib.Core.List.{List, [], _∷_}
 use mathlib.Core.Path.{_≡_}
 use Rattle.model.specs.Call.{Acted, Powered, Decoded, whole, Call, admit, step}
 
-module _ {S K : Type 0} (check : List ℕ → S → ℕ) (decode : List ℕ → Decoded K) (act : List ℕ → S → K → Acted S) where
+module _ {S K : Type 0} (check : List ℕ → S → ℕ) (decode : List ℕ → Decoded K) (act : List ℕ → S → K → Acted S)
+    (kind : S → K → ℕ) where
   -- Every command that is carried out meets a condition on the card, the state and itself, as the calls before it left them.
   -- A call that is refused carries out none.
   unfoldable pub Along : (List ℕ → S → K → Type 0) → List Call → Powered S → Type 0
   Along Ok [] m = Unit {0}
   Along Ok (x ∷ xs) m =
       ((k : K) (n : ℕ) → admit check decode act (m .card) (m .state) x ≡ whole k n → Ok (m .card) (m .state) k)
-      × Along Ok xs (step check decode act m x)
+      × Along Ok xs (step check decode act kind m x)

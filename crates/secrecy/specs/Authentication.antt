@@ -7,8 +7,9 @@ use native.Mathlib.Omega.{arith}
 use borrow.Author.Tests.{eqb-true, ne-eqb}
 use lib.Dec.{eqb}
 use Rattle.model.specs.Sizes.{fuseAt}
-use Rattle.model.specs.Volatile.{Volatile, powerUp, isGranted}
+use Rattle.model.specs.Volatile.{Volatile, isGranted}
 use Rattle.model.specs.Command.{Command}
+use Rattle.model.specs.Busy.{powerOn}
 use Rattle.model.specs.Call.{Call}
 use Rattle.model.specs.Access.{ate}
 use Rattle.model.specs.At88sc1608.{at88sc1608, fuses, registerAt, registerOf, attemptsAt, configurationAt}
@@ -85,5 +86,5 @@ claim z zl b₁ b₂ s₁ s₂ r h xs a =
     let v =
     indistinguishable at88sc1608 (rules at88sc1608 b₁) (inZone z) secret Locked AcceptsNot b₁ b₂
     (confines z zl (rules at88sc1608 b₁) (fuse-rule b₁ ∙ s₁ .blown) (ap ate (register-rule b₁ z zl) ∙ r))
-    (allows b₁ b₂) decode powerUp refl h refl xs a in
+    (allows b₁ b₂) decode powerOn refl h refl xs a in
     record { observed = v .0; long = v .1 .long; counters = λ n. v .1 .same _ (decides z zl .counter n); outside = v .1 .same }

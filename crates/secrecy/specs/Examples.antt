@@ -2,7 +2,7 @@
 -- is not told apart; and a list that breaks the condition and tells the cards apart. All of it is computed.
 use Prim.Native.Nat.{ℕ, _%_}
 use mathlib.Core.Bool.{Bool, true, not, _&&_, _||_, true≢false}
-use mathlib.Core.List.{List, [], _∷_, _++_, map}
+use mathlib.Core.List.{List, [], _∷_, map}
 use mathlib.Core.Path.{_≡_, refl, sym, ap, _∙_}
 use native.Mathlib.Omega.{arith}
 use borrow.Author.Tests.{eq-eqb, not-true}
@@ -11,18 +11,19 @@ use lib.ListN.{getD, set, replicate, length-set}
 use Rattle.model.specs.Lists.{at, sameList}
 use Rattle.laws.specs.ListLaws.{sameList-refl, at-set-other}
 use Rattle.laws.specs.BoolLaws.{and-left, and-right}
-use Rattle.model.specs.Volatile.{Volatile, powerUp}
 use Rattle.model.specs.Command.{Command, powerCycle, reset, select, readZone, writeZone, readConfiguration, writeConfiguration}
 use Rattle.model.specs.Command.{readFuses, writeFuses, verifyPassword, beginAuthentication, verifyAuthentication}
+use Rattle.model.specs.Instruction.{Instruction, issue, wait, poll}
+use Rattle.model.specs.Busy.{State, powerOn, answeredKind}
 use Rattle.model.specs.Call.{Call, Decoded, refused, whole, Powered, powered, Reply}
 use Rattle.model.specs.Call as calls
 use Rattle.model.specs.At88sc1608.{registerAt, passwordByte}
 use Rattle.model.specs.Record.{decode}
 use Rattle.model.specs.Computed.{computed}
 use Rattle.model.specs.Trials as trials
-use Rattle.model.specs.Single.{check, apply, admit, replies, final}
+use Rattle.model.specs.Single.{check, act, admit, replies, final}
 use Rattle.secrecy.specs.Along.{Along}
-use Rattle.secrecy.specs.Secret.{password, inZone, inZoneOrPasswords, AgreeOutside, PresentsNeither, AcceptsNot, Indistinguishable}
+use Rattle.secrecy.specs.Secret.{password, inZone, inZoneOrPasswords, AgreeOutside, PresentsNeither, AcceptsNot, OnCommand, Indistinguishable}
 use Rattle.secrecy.specs.CardSecrecy.{read-password, authentication-demanded}
 
 -- ---- the conditions as tests
@@ -68,21 +69,28 @@ accepts-not : (k : Command) → acceptsNot k ≡ true → AcceptsNot k
 accepts-not k t xs e = true≢false (sym (rw e at t))
 
 -- a test passes at every call of a list that is not refused
-abbrev passes : (Command → Bool) → Decoded Command → Bool
-passes test (refused n) = true
-passes test (whole k n) = test k
+abbrev onCommand : (Command → Bool) → Instruction → Bool
+onCommand test (issue k) = test k
+onCommand test (wait n) = true
+onCommand test poll = true
 
-abbrev throughout : (Command → Bool) → List Call → Powered Volatile → Bool
+abbrev passes : (Command → Bool) → Decoded Instruction → Bool
+passes test (refused n) = true
+passes test (whole i n) = onCommand test i
+
+abbrev throughout : (Command → Bool) → List Call → Powered State → Bool
 throughout test [] m = true
-throughout test (x ∷ xs) m = passes test (admit (m .card) (m .state) x) && throughout test xs (calls.step check decode apply m x)
+throughout test (x ∷ xs) m = passes test (admit (m .card) (m .state) x) && throughout test xs (calls.step check decode act answeredKind m x)
 
 along : (test : Command → Bool) (Ok : Command → Type 0) → ((k : Command) → test k ≡ true → Ok k)
-    → (xs : List Call) (m : Powered Volatile) → throughout test xs m ≡ true → Along check decode apply (λ c s k. Ok k) xs m
+    → (xs : List Call) (m : Powered State) → throughout test xs m ≡ true → Along check decode act answeredKind (λ c s i. OnCommand Ok i) xs m
 unfolding Along
 along test Ok h [] m t = tt
 along test Ok h (x ∷ xs) m t =
-    let p = passes test (admit (m .card) (m .state) x) in
-    ((λ k n e. h k (rw e at (and-left p _ t))), along test Ok h xs (calls.step check decode apply m x) (and-right p _ t))
+    let p = passes test (admit (m .card) (m .state) x) in (
+      (λ i n e k q. h k (rw q at (rw e at (and-left p _ t)))),
+      along test Ok h xs (calls.step check decode act answeredKind m x) (and-right p _ t),
+    )
 
 -- ---- cards and calls
 
@@ -104,18 +112,21 @@ agree-set hidden b c i v h t =
 agree-self : (hidden : ℕ → Bool) (b : List ℕ) → AgreeOutside hidden b b
 agree-self hidden b = record { long = refl; same = λ j o. refl }
 
--- what is computed of a run: the refusals, the tries, the first byte of a response space, a byte of the final card
+-- what is computed of a run: the refusals, the tries, the kinds, the first byte of a response space, a byte of the final card
 abbrev pub refusals : List Call → List ℕ → List ℕ
-refusals xs b = map (λ r. r .refusal) (replies xs (powered b powerUp))
+refusals xs b = map (λ r. r .refusal) (replies xs (powered b powerOn))
 
 abbrev handed : List Call → List ℕ → List ℕ
-handed xs b = map (λ r. r .tries) (replies xs (powered b powerUp))
+handed xs b = map (λ r. r .tries) (replies xs (powered b powerOn))
 
-abbrev answered : ℕ → List (Reply Volatile) → ℕ
+abbrev answeredKinds : List Call → List ℕ → List ℕ
+answeredKinds xs b = map (λ r. r .kind) (replies xs (powered b powerOn))
+
+abbrev answered : ℕ → List (Reply State) → ℕ
 answered n rs = at (getD (map (λ r. r .space) rs) n []) 0
 
 abbrev pub finalByte : ℕ → List Call → List ℕ → ℕ
-finalByte i xs b = at (final xs (powered b powerUp) .card) i
+finalByte i xs b = at (final xs (powered b powerOn) .card) i
 
 -- ---- the read password
 
@@ -127,25 +138,30 @@ readCard = set (set blank (registerAt 2) 0xAE) 512 0x11
 abbrev readCard′ : List ℕ
 readCard′ = set (set readCard 512 0x22) (passwordByte 3 0) 0x77
 
--- Select zone 2, read it, write into it, read it again; select 8 (refused with 7); the right write password with a byte too
--- much (refused with 9, so not presented); a wrong one; the read password of another set; read the passwords of set 3; a read
--- with no space for it (refused with 10).
+-- Select zone 2, read it, write into it; read it and poll while the card is busy; wait, read it again; select 8 (refused with 7); the
+-- right write password with a byte too much (refused with 9, so not presented); a wrong one; wait; the read password of another set;
+-- a power cycle, so that the card is ready; read the passwords of set 3; a read with no space for it (refused with 10).
 abbrev readCalls : List Call
 readCalls =
     call (3 ∷ 2 ∷ []) 0
     ∷ call (4 ∷ 0 ∷ 2 ∷ []) 4
     ∷ call (5 ∷ 0 ∷ 1 ∷ 0x33 ∷ []) 0
+    ∷ call (4 ∷ 0 ∷ 2 ∷ []) 0
+    ∷ call (14 ∷ []) 1
+    ∷ call (13 ∷ 10 ∷ []) 0
     ∷ call (4 ∷ 0 ∷ 2 ∷ []) 2
     ∷ call (3 ∷ 8 ∷ []) 1
     ∷ call (10 ∷ 3 ∷ 0xFF ∷ 0xFF ∷ 0xFF ∷ 0 ∷ []) 1
     ∷ call (10 ∷ 3 ∷ 1 ∷ 2 ∷ 3 ∷ []) 1
+    ∷ call (13 ∷ 10 ∷ []) 0
     ∷ call (10 ∷ 12 ∷ 0xFF ∷ 0xFF ∷ 0xFF ∷ []) 1
+    ∷ call (1 ∷ []) 0
     ∷ call (4 ∷ 0 ∷ 1 ∷ []) 1
     ∷ call (6 ∷ 0x58 ∷ 8 ∷ []) 8
     ∷ call (4 ∷ 0 ∷ 2 ∷ []) 1
     ∷ []
 
-read-clean : throughout (presentsNeither 3 readCard readCard′) readCalls (powered readCard powerUp) ≡ true
+read-clean : throughout (presentsNeither 3 readCard readCard′) readCalls (powered readCard powerOn) ≡ true
 unfolding computed
 read-clean = refl
 
@@ -156,15 +172,20 @@ read-example =
     (agree-set _ readCard _ (passwordByte 3 0) 0x77 (agree-set _ readCard readCard 512 0x22 (agree-self _ readCard) refl) refl)
     readCalls
     (along (presentsNeither 3 readCard readCard′) (PresentsNeither 3 readCard readCard′) (presents-neither 3 readCard readCard′)
-    readCalls (powered readCard powerUp) read-clean)
+    readCalls (powered readCard powerOn) read-clean)
 
-pub read-refusals : refusals readCalls readCard ≡ 0 ∷ 0 ∷ 0 ∷ 0 ∷ 7 ∷ 9 ∷ 0 ∷ 0 ∷ 0 ∷ 0 ∷ 10 ∷ []
+pub read-refusals : refusals readCalls readCard ≡ 0 ∷ 0 ∷ 0 ∷ 0 ∷ 0 ∷ 0 ∷ 0 ∷ 7 ∷ 9 ∷ 0 ∷ 0 ∷ 0 ∷ 0 ∷ 0 ∷ 0 ∷ 10 ∷ []
 unfolding computed
 read-refusals = refl
 
-pub read-tries : handed readCalls readCard ≡ 0 ∷ 0 ∷ 0 ∷ 0 ∷ 0 ∷ 0 ∷ 7 ∷ 8 ∷ 0 ∷ 0 ∷ 0 ∷ []
+pub read-tries : handed readCalls readCard ≡ 0 ∷ 0 ∷ 0 ∷ 0 ∷ 0 ∷ 0 ∷ 0 ∷ 0 ∷ 0 ∷ 7 ∷ 0 ∷ 8 ∷ 0 ∷ 0 ∷ 0 ∷ 0 ∷ []
 unfolding computed
 read-tries = refl
+
+-- one of them is ignored, on both cards, at the same moment
+pub read-kinds : answeredKinds readCalls readCard ≡ 3 ∷ 4 ∷ 5 ∷ 132 ∷ 14 ∷ 13 ∷ 4 ∷ 0 ∷ 0 ∷ 10 ∷ 13 ∷ 10 ∷ 1 ∷ 4 ∷ 6 ∷ 0 ∷ []
+unfolding computed
+read-kinds = refl
 
 pub read-differs : (finalByte 512 readCalls readCard ≡ 0x11) × (finalByte 512 readCalls readCard′ ≡ 0x22)
 unfolding computed
@@ -172,11 +193,11 @@ read-differs = (refl, refl)
 
 -- presenting the password tells them apart
 abbrev readOpened : List Call
-readOpened = call (3 ∷ 2 ∷ []) 0 ∷ call (10 ∷ 3 ∷ 0xFF ∷ 0xFF ∷ 0xFF ∷ []) 0 ∷ call (4 ∷ 0 ∷ 1 ∷ []) 1 ∷ []
+readOpened = call (3 ∷ 2 ∷ []) 0 ∷ call (10 ∷ 3 ∷ 0xFF ∷ 0xFF ∷ 0xFF ∷ []) 0 ∷ call (13 ∷ 10 ∷ []) 0 ∷ call (4 ∷ 0 ∷ 1 ∷ []) 1 ∷ []
 
 pub read-needed : Indistinguishable (inZoneOrPasswords 2 3) readOpened readCard readCard′ → ⊥
 unfolding computed
-read-needed i = let e : _≡_ {A = ℕ} 0x11 0 = ap (answered 2) (i .observed) in omega arith
+read-needed i = let e : _≡_ {A = ℕ} 0x11 0 = ap (answered 3) (i .observed) in omega arith
 
 -- and so do the tries alone: eight are left on the one card, seven on the other
 abbrev readTried : List Call
@@ -184,7 +205,7 @@ readTried = call (10 ∷ 3 ∷ 0xFF ∷ 0xFF ∷ 0xFF ∷ []) 0 ∷ []
 
 pub tries-needed : Indistinguishable (inZoneOrPasswords 2 3) readTried readCard readCard′ → ⊥
 unfolding computed
-tries-needed i = let e : _≡_ {A = ℕ} 8 7 = ap (λ (rs : List (Reply Volatile)). at (map (λ r. r .tries) rs) 0) (i .observed) in omega arith
+tries-needed i = let e : _≡_ {A = ℕ} 8 7 = ap (λ (rs : List (Reply State)). at (map (λ r. r .tries) rs) 0) (i .observed) in omega arith
 
 -- ---- authentication
 
@@ -195,22 +216,27 @@ authCard = set (set blank (registerAt 1) 0xDF) 256 0x11
 abbrev authCard′ : List ℕ
 authCard′ = set authCard 256 0x22
 
--- Select zone 1, read it, write into it; begin authentication and be denied; begin again; an acceptance that is cut short
--- (refused with 8) and a verdict out of range (refused with 7); read again.
+-- Select zone 1, read it, write into it; wait, begin authentication and be denied while the card is busy, and again when it is ready;
+-- wait, begin again; an acceptance that is cut short (refused with 8) and a verdict out of range (refused with 7); wait, read again.
 abbrev authCalls : List Call
 authCalls =
     call (3 ∷ 1 ∷ []) 0
     ∷ call (4 ∷ 0 ∷ 2 ∷ []) 4
     ∷ call (5 ∷ 0 ∷ 1 ∷ 0x33 ∷ []) 0
+    ∷ call (13 ∷ 10 ∷ []) 0
     ∷ call (11 ∷ []) 0
     ∷ call (12 ∷ 0 ∷ replicate 8 7) 0
+    ∷ call (13 ∷ 10 ∷ []) 0
+    ∷ call (12 ∷ 0 ∷ replicate 8 7) 0
+    ∷ call (13 ∷ 10 ∷ []) 0
     ∷ call (11 ∷ []) 0
     ∷ call (12 ∷ 1 ∷ replicate 7 7) 0
     ∷ call (12 ∷ 2 ∷ replicate 8 7) 0
+    ∷ call (13 ∷ 10 ∷ []) 0
     ∷ call (4 ∷ 0 ∷ 2 ∷ []) 2
     ∷ []
 
-auth-clean : throughout acceptsNot authCalls (powered authCard powerUp) ≡ true
+auth-clean : throughout acceptsNot authCalls (powered authCard powerOn) ≡ true
 unfolding computed
 auth-clean = refl
 
@@ -218,15 +244,19 @@ pub auth-example : Indistinguishable (inZone 1) authCalls authCard authCard′
 auth-example =
     authentication-demanded 1 (omega arith) authCard authCard′ (record { long = refl; blown = refl }) (record { long = refl; blown = refl }) refl
     (agree-set _ authCard authCard 256 0x22 (agree-self _ authCard) refl)
-    authCalls (along acceptsNot AcceptsNot accepts-not authCalls (powered authCard powerUp) auth-clean)
+    authCalls (along acceptsNot AcceptsNot accepts-not authCalls (powered authCard powerOn) auth-clean)
 
-pub auth-refusals : refusals authCalls authCard ≡ 0 ∷ 0 ∷ 0 ∷ 0 ∷ 0 ∷ 0 ∷ 8 ∷ 7 ∷ 0 ∷ []
+pub auth-refusals : refusals authCalls authCard ≡ 0 ∷ 0 ∷ 0 ∷ 0 ∷ 0 ∷ 0 ∷ 0 ∷ 0 ∷ 0 ∷ 0 ∷ 8 ∷ 7 ∷ 0 ∷ 0 ∷ []
 unfolding computed
 auth-refusals = refl
 
-pub auth-tries : handed authCalls authCard ≡ 0 ∷ 0 ∷ 0 ∷ 7 ∷ 0 ∷ 6 ∷ 0 ∷ 0 ∷ 0 ∷ []
+pub auth-tries : handed authCalls authCard ≡ 0 ∷ 0 ∷ 0 ∷ 0 ∷ 7 ∷ 0 ∷ 0 ∷ 0 ∷ 0 ∷ 6 ∷ 0 ∷ 0 ∷ 0 ∷ 0 ∷ []
 unfolding computed
 auth-tries = refl
+
+pub auth-kinds : answeredKinds authCalls authCard ≡ 3 ∷ 4 ∷ 5 ∷ 13 ∷ 11 ∷ 140 ∷ 13 ∷ 12 ∷ 13 ∷ 11 ∷ 0 ∷ 0 ∷ 13 ∷ 4 ∷ []
+unfolding computed
+auth-kinds = refl
 
 pub auth-differs : (finalByte 256 authCalls authCard ≡ 0x11) × (finalByte 256 authCalls authCard′ ≡ 0x22)
 unfolding computed
@@ -234,8 +264,10 @@ auth-differs = (refl, refl)
 
 -- an acceptance tells them apart
 abbrev authOpened : List Call
-authOpened = call (3 ∷ 1 ∷ []) 0 ∷ call (11 ∷ []) 0 ∷ call (12 ∷ 1 ∷ replicate 8 7) 0 ∷ call (4 ∷ 0 ∷ 1 ∷ []) 1 ∷ []
+authOpened =
+    call (3 ∷ 1 ∷ []) 0 ∷ call (11 ∷ []) 0 ∷ call (13 ∷ 10 ∷ []) 0 ∷ call (12 ∷ 1 ∷ replicate 8 7) 0 ∷ call (13 ∷ 10 ∷ []) 0
+    ∷ call (4 ∷ 0 ∷ 1 ∷ []) 1 ∷ []
 
 pub auth-needed : Indistinguishable (inZone 1) authOpened authCard authCard′ → ⊥
 unfolding computed
-auth-needed i = let e : _≡_ {A = ℕ} 0x11 0x22 = ap (answered 3) (i .observed) in omega arith
+auth-needed i = let e : _≡_ {A = ℕ} 0x11 0x22 = ap (answered 5) (i .observed) in omega arith

@@ -9,16 +9,19 @@ use Rattle.model.specs.Lists.{at, sameList}
 use Rattle.laws.specs.ListLaws.{tab-cong, at-tab, sameList-false}
 use Rattle.model.specs.Volatile.{Volatile}
 use Rattle.model.specs.Command.{Command, verifyPassword}
+use Rattle.model.specs.Instruction.{Instruction, issue, wait, poll}
 use Rattle.model.specs.Device.{Device}
 use Rattle.model.specs.Refusal.{cardLength, fuseByte, stateOutOfRange}
 use Rattle.model.specs.Call.{powered, Decoded, Call, replies, final}
 use Rattle.model.specs.Apply.{rules, password, apply}
+use Rattle.model.specs.Busy.{State, timed, writeTime, ignores, answeredKind, perform, act}
 use Rattle.model.specs.Single.{isFuseByte, stateInRange, checkOf}
-use Rattle.laws.specs.Effects.{Move, moves, answer-length}
+use Rattle.laws.specs.BusyLaws.{act-ignored, act-performed, given-answer}
+use Rattle.laws.specs.Effects.{Move, moves}
 use Rattle.laws.specs.Sane.{Untouched, keeps}
 use Rattle.secrecy.specs.Along.{Along}
-use Rattle.secrecy.specs.Secret.{AgreeOutside}
-use Rattle.secrecy.specs.Unwinding.{Open, rules-same, unwind}
+use Rattle.secrecy.specs.Secret.{AgreeOutside, OnCommand}
+use Rattle.secrecy.specs.Unwinding.{Open, rules-same, busy-same, unwind}
 use Rattle.secrecy.specs.TwoRuns.{list-same}
 
 -- Laws of a device with rule bytes ρ, while the state is locked.
@@ -121,20 +124,43 @@ module _ (D : Device) (ρ : List ℕ) (hidden secret : ℕ → Bool) (Locked : V
         },
       )
 
+  -- ---- a card that can be busy: every instruction
+
+  performs : (c₁ c₂ : List ℕ) (s : State) (i : Instruction) → R c₁ c₂ (s .volatile) → OnCommand Ok i
+      → (perform D c₁ s i .report ≡ perform D c₂ s i .report)
+      × R (perform D c₁ s i .card) (perform D c₂ s i .card) (perform D c₁ s i .report .state .volatile)
+  unfolding perform
+  performs c₁ c₂ s (issue k) r ok =
+      let u = unwinds c₁ c₂ (s .volatile) k r (ok k refl) in
+      let b = busy-same D hidden (confines .decides) c₁ c₂ (s .volatile) k (r .agree) in
+      (λ t. record { state = timed (u .0 t .state) (cond (b t) writeTime 0); answer = u .0 t .answer; tries = u .0 t .tries }, u .1)
+  performs c₁ c₂ s (wait n) r ok = (refl, r)
+  performs c₁ c₂ s poll r ok = (refl, r)
+
+  acts : (c₁ c₂ : List ℕ) (s : State) (i : Instruction) → R c₁ c₂ (s .volatile) → OnCommand Ok i
+      → (act D c₁ s i .report ≡ act D c₂ s i .report) × R (act D c₁ s i .card) (act D c₂ s i .card) (act D c₁ s i .report .state .volatile)
+  acts c₁ c₂ s i r ok = go (ignores s i) refl
+    where
+      go : (t : Bool) → ignores s i ≡ t
+          → (act D c₁ s i .report ≡ act D c₂ s i .report) × R (act D c₁ s i .card) (act D c₂ s i .card) (act D c₁ s i .report .state .volatile)
+      go true e = rw (act-ignored D c₁ s i e, act-ignored D c₂ s i e) (refl, r)
+      go false e = rw (act-performed D c₁ s i e, act-performed D c₂ s i e) (performs c₁ c₂ s i r ok)
+
   -- ---- every list, under every decoder
 
-  checks : (c₁ c₂ : List ℕ) (s : Volatile) → R c₁ c₂ s → checkOf D c₁ s ≡ checkOf D c₂ s
+  checks : (c₁ c₂ : List ℕ) (s : State) → R c₁ c₂ (s .volatile) → checkOf D c₁ s ≡ checkOf D c₂ s
   unfolding checkOf
   checks c₁ c₂ s r =
       λ i. cond (not (eqb (r .agree .long i) (D .size))) cardLength
       (cond (not (isFuseByte (r .agree .same (D .fuseAt) (confines .decides .fuse) i))) fuseByte (cond (not (stateInRange D s)) stateOutOfRange 0))
 
-  pub indistinguishable : (decode : List ℕ → Decoded Command) (s : Volatile) → rules D b₁ ≡ ρ → AgreeOutside hidden b₁ b₂ → Locked s
-      → (xs : List Call) → Along (checkOf D) decode (apply D) (λ c t k. Ok k) xs (powered b₁ s)
-      → (replies (checkOf D) decode (apply D) xs (powered b₁ s) ≡ replies (checkOf D) decode (apply D) xs (powered b₂ s))
-      × AgreeOutside hidden (final (checkOf D) decode (apply D) xs (powered b₁ s) .card) (final (checkOf D) decode (apply D) xs (powered b₂ s) .card)
+  pub indistinguishable : (decode : List ℕ → Decoded Instruction) (s : State) → rules D b₁ ≡ ρ → AgreeOutside hidden b₁ b₂ → Locked (s .volatile)
+      → (xs : List Call) → Along (checkOf D) decode (act D) answeredKind (λ c t i. OnCommand Ok i) xs (powered b₁ s)
+      → (replies (checkOf D) decode (act D) answeredKind xs (powered b₁ s) ≡ replies (checkOf D) decode (act D) answeredKind xs (powered b₂ s))
+      × AgreeOutside hidden (final (checkOf D) decode (act D) answeredKind xs (powered b₁ s) .card)
+      (final (checkOf D) decode (act D) answeredKind xs (powered b₂ s) .card)
   indistinguishable decode s e h l xs a =
-      let start : R b₁ b₂ s =
+      let begin : R b₁ b₂ (s .volatile) =
       record {
         agree = h;
         ruled₁ = e;
@@ -144,6 +170,6 @@ module _ (D : Device) (ρ : List ℕ) (hidden secret : ℕ → Bool) (Locked : V
         locked = l;
       } in
       let v =
-      list-same (checkOf D) decode (apply D) R (λ c t k. Ok k) checks
-      (λ c₁ c₂ t k r. answer-length D c₁ t k ∙ sym (answer-length D c₂ t k)) unwinds xs (powered b₁ s) (powered b₂ s) (refl, start) a in
+      list-same (checkOf D) decode (act D) answeredKind (λ c₁ c₂ t. R c₁ c₂ (t .volatile)) (λ c t i. OnCommand Ok i) checks
+      (λ c₁ c₂ t i r. given-answer D c₁ t i ∙ sym (given-answer D c₂ t i)) acts xs (powered b₁ s) (powered b₂ s) (refl, begin) a in
       (v .0, v .1 .1 .agree)

@@ -9,8 +9,9 @@ use lib.Dec.{eqb}
 use Rattle.model.specs.Sizes.{fuseAt}
 use Rattle.model.specs.Lists.{sameList}
 use Rattle.laws.specs.BoolLaws.{and-false}
-use Rattle.model.specs.Volatile.{Volatile, powerUp, isActive, isGranted}
+use Rattle.model.specs.Volatile.{Volatile, isActive, isGranted}
 use Rattle.model.specs.Command.{Command, verifyPassword}
+use Rattle.model.specs.Busy.{powerOn}
 use Rattle.model.specs.Call.{Call}
 use Rattle.model.specs.Access.{rpe, ate, passwordSet, met, setOf}
 use Rattle.model.specs.At88sc1608.{at88sc1608, fuses, registerAt, registerOf, passwordByte, mayRead, attemptsAt, configurationAt}
@@ -156,7 +157,7 @@ claim z zl b₁ b₂ s₁ s₂ r h xs a =
     let v =
     indistinguishable at88sc1608 ρ (hidden z p zl pl) (secret z p zl pl) (Locked z p zl pl) (PresentsNeither p b₁ b₂) b₁ b₂
     (confines z p zl pl ρ (fuse-rule b₁ ∙ s₁ .blown) (ap rpe (register-rule b₁ z zl) ∙ r) (ap passwordSet (register-rule b₁ z zl)))
-    (allows z p zl pl b₁ b₂) decode powerUp refl h (refl, refl) xs a in
+    (allows z p zl pl b₁ b₂) decode powerOn refl h (refl, refl) xs a in
     record {
       observed = v .0;
       long = v .1 .long;

@@ -8,13 +8,14 @@ use lib.Dec.{eqb}
 use lib.ListN.{length}
 use Rattle.model.specs.Sizes.{cardSize, fuseAt}
 use Rattle.model.specs.Lists.{at}
-use Rattle.model.specs.Volatile.{powerUp}
 use Rattle.model.specs.Command.{Command, verifyPassword, verifyAuthentication}
+use Rattle.model.specs.Instruction.{Instruction, issue}
+use Rattle.model.specs.Busy.{powerOn, answeredKind}
 use Rattle.model.specs.Call.{Call, powered}
 use Rattle.model.specs.Apply as any
 use Rattle.model.specs.At88sc1608.{at88sc1608, registerAt, passwordByte}
 use Rattle.model.specs.Record.{decode}
-use Rattle.model.specs.Single.{check, apply, replies, final}
+use Rattle.model.specs.Single.{check, act, replies, final}
 use Rattle.model.specs.Device.{Counter, counterPlace}
 use Rattle.secrecy.specs.Along.{Along}
 
@@ -56,15 +57,19 @@ PresentsNeither p b₁ b₂ k =
 abbrev pub AcceptsNot : Command → Type 0
 AcceptsNot k = (xs : List ℕ) → k ≡ verifyAuthentication true xs → ⊥
 
--- every call of a list that is not refused, from power-up on, meets a condition
+-- an instruction that is a command meets a condition
+abbrev pub OnCommand : (Command → Type 0) → Instruction → Type 0
+OnCommand Ok i = (k : Command) → i ≡ issue k → Ok k
+
+-- every call of a list that is not refused, from power-up on, meets a condition, be it ignored or not
 abbrev pub Throughout : (Command → Type 0) → List Call → List ℕ → Type 0
-Throughout Ok xs b = Along check decode apply (λ c s k. Ok k) xs (powered b powerUp)
+Throughout Ok xs b = Along check decode act answeredKind (λ c s i. OnCommand Ok i) xs (powered b powerOn)
 
 -- A list of calls, from power-up on, gives back the same on both cards, call by call, and leaves equally long cards with equal
 -- counters and equal bytes outside the hidden places.
 pub record Indistinguishable (hidden : ℕ → Bool) (xs : List Call) (b₁ b₂ : List ℕ) : Type 0 where
-  pub observed : replies xs (powered b₁ powerUp) ≡ replies xs (powered b₂ powerUp)
-  pub long : length (final xs (powered b₁ powerUp) .card) ≡ length (final xs (powered b₂ powerUp) .card)
+  pub observed : replies xs (powered b₁ powerOn) ≡ replies xs (powered b₂ powerOn)
+  pub long : length (final xs (powered b₁ powerOn) .card) ≡ length (final xs (powered b₂ powerOn) .card)
   pub counters : (n : Counter)
-      → at (final xs (powered b₁ powerUp) .card) (counterPlace at88sc1608 n) ≡ at (final xs (powered b₂ powerUp) .card) (counterPlace at88sc1608 n)
-  pub outside : (i : ℕ) → hidden i ≡ false → at (final xs (powered b₁ powerUp) .card) i ≡ at (final xs (powered b₂ powerUp) .card) i
+      → at (final xs (powered b₁ powerOn) .card) (counterPlace at88sc1608 n) ≡ at (final xs (powered b₂ powerOn) .card) (counterPlace at88sc1608 n)
+  pub outside : (i : ℕ) → hidden i ≡ false → at (final xs (powered b₁ powerOn) .card) i ≡ at (final xs (powered b₂ powerOn) .card) i

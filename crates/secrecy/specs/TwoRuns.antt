@@ -15,10 +15,11 @@ use Rattle.secrecy.specs.Along.{Along}
 abbrev pub Twin : {S : Type 0} → (List ℕ → List ℕ → S → Type 0) → Powered S → Powered S → Type 0
 Twin R m n = (m .state ≡ n .state) × R (m .card) (n .card) (m .state)
 
-module _ {S K : Type 0} (check : List ℕ → S → ℕ) (decode : List ℕ → Decoded K) (act : List ℕ → S → K → Acted S) where
+module _ {S K : Type 0} (check : List ℕ → S → ℕ) (decode : List ℕ → Decoded K) (act : List ℕ → S → K → Acted S)
+    (kind : S → K → ℕ) where
   -- what a call whose admission is known leaves
   abbrev does : List ℕ → S → Call → Decoded K → Called S
-  does c s x d = carried check decode act c s (x .space) d
+  does c s x d = carried check decode act kind c s (x .space) d
 
   module _
       (R : List ℕ → List ℕ → S → Type 0)
@@ -47,11 +48,11 @@ module _ {S K : Type 0} (check : List ℕ → S → ℕ) (decode : List ℕ → 
     does-same c₁ c₂ s x (refused n) r ok = (refl, r)
     does-same c₁ c₂ s x (whole k n) r ok =
         let u = unwinds c₁ c₂ s k r (ok k n refl) in
-        (ap (replying (x .space)) (u .0), u .1)
+        (ap (replying (kind s k) (x .space)) (u .0), u .1)
 
     pub call-same : (c₁ c₂ : List ℕ) (s : S) (x : Call) → R c₁ c₂ s
         → ((k : K) (n : ℕ) → admit check decode act c₁ s x ≡ whole k n → Ok c₁ s k)
-        → Alike (command check decode act c₁ s x) (command check decode act c₂ s x)
+        → Alike (command check decode act kind c₁ s x) (command check decode act kind c₂ s x)
     unfolding command
     call-same c₁ c₂ s x r ok =
         subst (λ (d : Decoded K). Alike (does c₁ s x (admit check decode act c₁ s x)) (does c₂ s x d)) (admit-same c₁ c₂ s x r)
@@ -59,20 +60,20 @@ module _ {S K : Type 0} (check : List ℕ → S → ℕ) (decode : List ℕ → 
 
     pub step-same : (m n : Powered S) (x : Call) → Twin R m n
         → ((k : K) (i : ℕ) → admit check decode act (m .card) (m .state) x ≡ whole k i → Ok (m .card) (m .state) k)
-        → (command check decode act (m .card) (m .state) x .reply ≡ command check decode act (n .card) (n .state) x .reply)
-        × Twin R (step check decode act m x) (step check decode act n x)
+        → (command check decode act kind (m .card) (m .state) x .reply ≡ command check decode act kind (n .card) (n .state) x .reply)
+        × Twin R (step check decode act kind m x) (step check decode act kind n x)
     step-same m n x t ok =
-        let u : Alike (command check decode act (m .card) (m .state) x) (command check decode act (n .card) (n .state) x) =
-        subst (λ (s : S). Alike (command check decode act (m .card) (m .state) x) (command check decode act (n .card) s x)) (t .0)
+        let u : Alike (command check decode act kind (m .card) (m .state) x) (command check decode act kind (n .card) (n .state) x) =
+        subst (λ (s : S). Alike (command check decode act kind (m .card) (m .state) x) (command check decode act kind (n .card) s x)) (t .0)
         (call-same (m .card) (n .card) (m .state) x (t .1) ok)
         in (u .0, (λ i. u .0 i .state, u .1))
 
-    pub list-same : (xs : List Call) (m n : Powered S) → Twin R m n → Along check decode act Ok xs m
-        → (replies check decode act xs m ≡ replies check decode act xs n)
-        × Twin R (final check decode act xs m) (final check decode act xs n)
+    pub list-same : (xs : List Call) (m n : Powered S) → Twin R m n → Along check decode act kind Ok xs m
+        → (replies check decode act kind xs m ≡ replies check decode act kind xs n)
+        × Twin R (final check decode act kind xs m) (final check decode act kind xs n)
     unfolding Along replies final
     list-same [] m n t a = (refl, t)
     list-same (x ∷ xs) m n t a =
         let u = step-same m n x t (a .0) in
-        let v = list-same xs (step check decode act m x) (step check decode act n x) (u .1) (a .1) in
+        let v = list-same xs (step check decode act kind m x) (step check decode act kind n x) (u .1) (a .1) in
         (λ i. u .0 i ∷ v .0 i, v .1)

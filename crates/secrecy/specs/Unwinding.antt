@@ -1,7 +1,7 @@
 -- Unwinding: one command on two cards that agree outside the hidden places, at a common state, for any device. Where the hidden
 -- places may not be read and the password presented is judged alike, both cards report the same and agree as before.
 use Prim.Native.Nat.{ℕ}
-use mathlib.Core.Bool.{Bool, true, false, cond}
+use mathlib.Core.Bool.{Bool, true, false, cond, not, _&&_}
 use mathlib.Core.List.{List, [], _∷_}
 use mathlib.Core.Path.{_≡_, refl, ap, subst, _∙_}
 use lib.Dec.{eqb}
@@ -12,6 +12,7 @@ use Rattle.model.specs.Volatile.{Volatile, isBegun}
 use Rattle.model.specs.Command.{Command, powerCycle, reset, select, readZone, writeZone, readConfiguration, writeConfiguration}
 use Rattle.model.specs.Command.{readFuses, writeFuses, verifyPassword, beginAuthentication, verifyAuthentication}
 use Rattle.model.specs.Device.{Device, Counter, ofPassword, ofAuthentication, counterPlace}
+use Rattle.model.specs.Busy.{makesBusy}
 use Rattle.model.specs.Call.{Acted, attempted, reporting, silent, tried}
 use Rattle.model.specs.Apply.{Attempt, locked, right, wrong, attemptOf, Judgement, notBegun, accepted, denied, judgementOf}
 use Rattle.model.specs.Apply.{rules, shown, kept, password, counted, presented, started, judged, apply}
@@ -32,6 +33,21 @@ Same hidden u v = (u .report ≡ v .report) × AgreeOutside hidden (u .card) (v 
 module _ (D : Device) (hidden : ℕ → Bool) (open-places : Open D hidden) where
   pub rules-same : (c₁ c₂ : List ℕ) → AgreeOutside hidden c₁ c₂ → rules D c₁ ≡ rules D c₂
   rules-same c₁ c₂ h = tab-cong _ _ (D .ruleCount) (λ k l. h .same (D .ruleAt k) (open-places .rule k))
+
+  -- a command makes both cards busy, or neither
+  pub busy-same : (c₁ c₂ : List ℕ) (v : Volatile) (k : Command) → AgreeOutside hidden c₁ c₂ → makesBusy D c₁ v k ≡ makesBusy D c₂ v k
+  busy-same c₁ c₂ v powerCycle h = refl
+  busy-same c₁ c₂ v reset h = refl
+  busy-same c₁ c₂ v (select z) h = refl
+  busy-same c₁ c₂ v (readZone a n) h = refl
+  busy-same c₁ c₂ v (writeZone a xs) h = refl
+  busy-same c₁ c₂ v (readConfiguration a n) h = refl
+  busy-same c₁ c₂ v (writeConfiguration a xs) h = refl
+  busy-same c₁ c₂ v readFuses h = refl
+  busy-same c₁ c₂ v writeFuses h = ap (λ (f : ℕ). D .mayBlow v && not (eqb f 0)) (h .same _ (open-places .fuse))
+  busy-same c₁ c₂ v (verifyPassword k xs) h = ap (λ (x : ℕ). not (eqb x 0)) (h .same _ (open-places .counter (ofPassword k)))
+  busy-same c₁ c₂ v beginAuthentication h = ap (λ (x : ℕ). not (eqb x 0)) (h .same _ (open-places .counter ofAuthentication))
+  busy-same c₁ c₂ v (verifyAuthentication x xs) h = refl
 
   -- a counter that counts leaves as many tries on both
   counted-same : (c₁ c₂ : List ℕ) (s : Volatile) (n : Counter) → AgreeOutside hidden c₁ c₂

@@ -7,16 +7,16 @@ use lib.Seq.{sets}
 use Rattle.model.specs.Sizes.{leastLog}
 use Rattle.model.specs.At88sc1608.{at88sc1608}
 use Rattle.model.specs.Call.{Powered, powered, whole}
-use Rattle.model.specs.Command.{Command}
-use Rattle.laws.specs.Effects.{answerLength}
+use Rattle.model.specs.Instruction.{Instruction}
+use Rattle.laws.specs.BusyLaws.{fullAnswer}
 use Rattle.model.specs.Log.{entryBytes, entriesBytes}
 use Rattle.model.specs.Reader.{recordsEnd}
 use Rattle.model.specs.Record.{decode}
 use Rattle.laws.specs.Sane.{Good}
 use Rattle.model.specs.Session as model
-use Rattle.model.specs.Volatile.{Volatile, powerUp}
+use Rattle.model.specs.Busy.{State, powerOn}
+use Rattle.properties.specs.SessionLaws.{fullTotal}
 use Rattle.record.specs.RefusalNumber.{outcomeNumber}
-use Rattle.validate.specs.Check.{entriesTotal}
 use Rattle.session.specs.declared.result.Run.{Run}
 
 -- the result with the log space at exit
@@ -25,52 +25,54 @@ ranOf r space = record { refusal = outcomeNumber (r .outcome); size = r .size; s
 
 -- ---- one record
 
--- a part with a whole record at its front, a card and a state in range, room for the record's entry
-pub record EntryReady (part : List ℕ) (m : Powered Volatile) (log : List ℕ) (place : ℕ) : Type 0 where
-  pub command : Command
+-- a part with a whole record at its front, a card and a state in range, room for the record's entry in full
+pub record EntryReady (part : List ℕ) (m : Powered State) (log : List ℕ) (place : ℕ) : Type 0 where
+  pub instruction : Instruction
   pub size : ℕ
-  pub decodes : decode part ≡ whole command size
+  pub decodes : decode part ≡ whole instruction size
   pub good : Good (m .card) (m .state)
-  pub room : place + (3 + answerLength at88sc1608 command) ≤ length log
+  pub room : place + (3 + fullAnswer at88sc1608 instruction) ≤ length log
 
--- the command is carried out, and its entry stands in its place
-pub record EntryWritten (part : List ℕ) (m : Powered Volatile) (log : List ℕ) (place : ℕ) (c′ : List ℕ) (s′ : Volatile) (log′ : List ℕ) : Type 0 where
-  pub command : Command
+-- the instruction is carried out, and its entry stands in its place, with a response of some length
+pub record EntryWritten (part : List ℕ) (m : Powered State) (log : List ℕ) (place : ℕ) (c′ : List ℕ) (s′ : State) (n : ℕ) (log′ : List ℕ) : Type 0 where
+  pub instruction : Instruction
   pub size : ℕ
-  pub decodes : decode part ≡ whole command size
-  pub card : c′ ≡ model.after m command .card
-  pub state : s′ ≡ model.after m command .state
-  pub bytes : log′ ≡ sets log place (entryBytes (model.logged m command))
+  pub decodes : decode part ≡ whole instruction size
+  pub card : c′ ≡ model.after m instruction .card
+  pub state : s′ ≡ model.after m instruction .state
+  pub length-is : n ≡ length (model.logged m instruction .response)
+  pub bytes : log′ ≡ sets log place (entryBytes (model.logged m instruction))
 
 -- ---- all records
 
--- records that are whole, a card for them and room for their entries
+-- records that are whole, a card for them and room for their entries in full
 pub record RecordsReady (s : List ℕ) (start count : ℕ) (c log : List ℕ) : Type 0 where
-  pub commands : List Command
-  pub reads : model.readFrom count s start ≡ model.all commands (recordsEnd (length s))
+  pub instructions : List Instruction
+  pub reads : model.readFrom count s start ≡ model.all instructions (recordsEnd (length s))
   pub within : start ≤ recordsEnd (length s)
-  pub good : Good c powerUp
-  pub room : entriesTotal commands ≤ length log
+  pub good : Good c powerOn
+  pub room : fullTotal instructions ≤ length log
 
--- all commands are carried out, and their entries stand at the front of the log
-pub record RecordsRun (s : List ℕ) (start count : ℕ) (c log c′ log′ : List ℕ) : Type 0 where
-  pub commands : List Command
-  pub reads : model.readFrom count s start ≡ model.all commands (recordsEnd (length s))
-  pub card : c′ ≡ model.endOf commands (powered c powerUp) .card
-  pub bytes : log′ ≡ sets log 0 (entriesBytes (model.entriesOf commands (powered c powerUp)))
+-- all instructions are carried out, and their entries stand at the front of the log, up to a place
+pub record RecordsRun (s : List ℕ) (start count : ℕ) (c log c′ log′ : List ℕ) (place : ℕ) : Type 0 where
+  pub instructions : List Instruction
+  pub reads : model.readFrom count s start ≡ model.all instructions (recordsEnd (length s))
+  pub card : c′ ≡ model.endOf instructions (powered c powerOn) .card
+  pub place-is : place ≡ length (entriesBytes (model.entriesOf instructions (powered c powerOn)))
+  pub bytes : log′ ≡ sets log 0 (entriesBytes (model.entriesOf instructions (powered c powerOn)))
 
 -- ---- the log
 
--- a session whose check gave the length of the entries, and room for its log
-pub record LogReady (s : List ℕ) (entries : ℕ) (log : List ℕ) : Type 0 where
-  pub commands : List Command
+-- a session that was checked, and room for its log in full
+pub record LogReady (s log : List ℕ) : Type 0 where
+  pub instructions : List Instruction
   pub frames : model.frame s ≡ 0
-  pub reads : model.readFrom (model.countOf s) s (model.startOf s) ≡ model.all commands (recordsEnd (length s))
-  pub total : entries ≡ entriesTotal commands
-  pub room : entries + leastLog ≤ length log
+  pub reads : model.readFrom (model.countOf s) s (model.startOf s) ≡ model.all instructions (recordsEnd (length s))
+  pub room : fullTotal instructions + leastLog ≤ length log
 
--- the log stands at the front of the space
-pub record LogWritten (s log log′ : List ℕ) : Type 0 where
-  pub commands : List Command
-  pub reads : model.readFrom (model.countOf s) s (model.startOf s) ≡ model.all commands (recordsEnd (length s))
-  pub bytes : log′ ≡ sets log 0 (model.logOf s commands)
+-- the log stands at the front of the space, with its length
+pub record LogWritten (s log : List ℕ) (size : ℕ) (log′ : List ℕ) : Type 0 where
+  pub instructions : List Instruction
+  pub reads : model.readFrom (model.countOf s) s (model.startOf s) ≡ model.all instructions (recordsEnd (length s))
+  pub size-is : size ≡ length (model.logOf s instructions)
+  pub bytes : log′ ≡ sets log 0 (model.logOf s instructions)

@@ -13,7 +13,8 @@ use validate::check;
 pub mod result;
 pub mod write;
 
-// A session run. A refusal changes nothing; an accepted session's log stands at the front of the log space.
+// A session run. A refusal changes nothing; an accepted session's log stands at the front of the log space, which must have room for
+// every record's full response, ignored or not.
 pub fn run(session: &[u8], log: &mut [u8]) -> Run
     ensures { λ r. ⌜ ranOf r (now (log .exit)) ≡ model.run (now (session .entry)) (now (log .entry)) ⌝ }
 {
@@ -36,10 +37,9 @@ pub fn run(session: &[u8], log: &mut [u8]) -> Run
                     size: 0,
                 };
             }
-            write_log(session, entries, log);
             Run {
                 outcome: Outcome::Accepted,
-                size: entries + LEAST_LOG,
+                size: write_log(session, log),
             }
         }
     }

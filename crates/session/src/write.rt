@@ -1,78 +1,104 @@
 // A session that was checked is run on a working card, and its log written.
 ghost use mathlib.Core.Path.{_≡_};
 ghost use Rattle.model.specs.Call.{powered};
-ghost use Rattle.access.specs.State.{volatileOf};
+ghost use Rattle.busy.specs.TimedState.{stateOf};
 ghost use Rattle.record.specs.DecodedRecord.{headOf};
 ghost use Rattle.session.specs.Run.{EntryReady, EntryWritten, RecordsReady, RecordsRun, LogReady, LogWritten};
-use access::volatile::Volatile;
-use access::volatile::power_up;
+use busy::State;
+use busy::is_ignored;
+use busy::power_on;
 use carry::carry_out;
 use log::write::put_header;
 use log::write::put_trailer;
 use reader::records_end;
 use record::decoder::Head;
 use record::decoder::head_of;
-use record::decoder::made;
 use record::kind::answer_length;
 use record::kind::record_length;
 use record::number::get2;
 use record::number::get4;
 use sizes::CARD;
+use sizes::LEAST_LOG;
 use sizes::TRAILER;
 use slices::copy;
+
+// The state after a record, and how long its response is.
+pub struct Entered {
+    pub state: State,
+    pub response: usize,
+}
 
 // helper: the record at the front of a part carried out, and its entry written. It was checked, so its head tells what it is.
 fn write_entry(
     part: &[u8],
     head: Head,
     card: &mut [u8],
-    state: Volatile,
+    state: State,
     log: &mut [u8],
     place: usize,
-) -> Volatile
-    requires { ⌜ (head ≡ headOf (now part)) × EntryReady (now part) (powered (now card) (volatileOf state)) (now log) place ⌝ }
-    ensures { λ r. ⌜ EntryWritten (now (part .entry)) (powered (now (card .entry)) (volatileOf state)) (now (log .entry)) place
-        (now (card .exit)) (volatileOf r) (now (log .exit)) ⌝ }
+) -> Entered
+    requires { ⌜ (head ≡ headOf (now part)) × EntryReady (now part) (powered (now card) (stateOf state)) (now log) place ⌝ }
+    ensures { λ r. ⌜ EntryWritten (now (part .entry)) (powered (now (card .entry)) (stateOf state)) (now (log .entry)) place
+        (now (card .exit)) (stateOf (r .state)) (r .response) (now (log .exit)) ⌝ }
 {
-    let answer = answer_length(head.kind, head.n) as usize;
-    put_header(log, place, head.kind, answer);
-    let record = made(head.kind, head.a, head.n);
+    if is_ignored(state.busy, head.kind) {
+        put_header(log, place, head.kind + 128, 0);
+        return Entered { state, response: 0 };
+    }
+    let response = answer_length(head.kind, head.n) as usize;
+    put_header(log, place, head.kind, response);
     let end = record_length(head.kind, head.n);
     let from = place + 3;
-    let report = carry_out(card, state, record, part, end, &mut log[from..]);
-    report.state
+    let volatile = state.volatile;
+    let done = carry_out(
+        card,
+        volatile,
+        state.busy,
+        head,
+        part,
+        end,
+        &mut log[from..],
+    );
+    let after = done.state;
+    Entered {
+        state: after,
+        response,
+    }
 }
 
-// helper: count records from start on, run from power-up.
-fn run_records(session: &[u8], start: usize, count: usize, card: &mut [u8], log: &mut [u8])
+// helper: count records from start on, run from power-up; where their entries end.
+fn run_records(session: &[u8], start: usize, count: usize, card: &mut [u8], log: &mut [u8]) -> usize
     requires { ⌜ RecordsReady (now session) start count (now card) (now log) ⌝ }
-    ensures { λ _. ⌜ RecordsRun (now (session .entry)) start count (now (card .entry)) (now (log .entry)) (now (card .exit)) (now (log .exit)) ⌝ }
+    ensures { λ r. ⌜ RecordsRun (now (session .entry)) start count (now (card .entry)) (now (log .entry)) (now (card .exit)) (now (log .exit)) r ⌝ }
 {
     let end = records_end(session);
-    let mut state = power_up();
+    let mut state = power_on();
     let mut at = start;
     let mut place = 0;
     let mut left = count;
     while 0 < left {
         let head = head_of(&session[at..end]);
-        state = write_entry(&session[at..end], head, card, state, log, place);
+        let entered = write_entry(&session[at..end], head, card, state, log, place);
+        state = entered.state;
         at += record_length(head.kind, head.n);
-        place += 3 + answer_length(head.kind, head.n) as usize;
+        place += 3 + entered.response;
         left -= 1;
     }
+    place
 }
 
-// helper: the entries, the final card and the trailer.
-pub fn write_log(session: &[u8], entries: usize, log: &mut [u8])
-    requires { ⌜ LogReady (now session) entries (now log) ⌝ }
-    ensures { λ _. ⌜ LogWritten (now (session .entry)) (now (log .entry)) (now (log .exit)) ⌝ }
+// helper: the entries, the final card and the trailer; how long the log is.
+pub fn write_log(session: &[u8], log: &mut [u8]) -> usize
+    requires { ⌜ LogReady (now session) (now log) ⌝ }
+    ensures { λ r. ⌜ LogWritten (now (session .entry)) (now (log .entry)) r (now (log .exit)) ⌝ }
 {
     let length = session.len();
     let start = get4(session, length - TRAILER);
     let count = get2(session, length - 4);
     let mut card = [0u8; CARD];
     copy(&mut card, 0, session, 0, CARD);
-    run_records(session, start, count, &mut card, log);
+    let entries = run_records(session, start, count, &mut card, log);
     copy(log, entries, &card, 0, CARD);
     put_trailer(log, entries + CARD, entries, count);
+    entries + LEAST_LOG
 }

@@ -11,15 +11,16 @@ use Rattle.model.specs.Sizes.{cardSize, fuseAt, trailerSize, leastSession, grea
 use Rattle.model.specs.Lists.{at}
 use Rattle.model.specs.At88sc1608.{at88sc1608}
 use Rattle.model.specs.Call.{refused, whole}
-use Rattle.model.specs.Command.{Command}
-use Rattle.laws.specs.Effects.{answerLength}
+use Rattle.model.specs.Instruction.{Instruction}
+use Rattle.laws.specs.BusyLaws.{fullAnswer}
+use Rattle.properties.specs.SessionLaws.{fullTotal}
 use Rattle.model.specs.Reader.{recordsEnd, nextOf}
 use Rattle.model.specs.Refusal.{sessionLength, sessionTrailer, startOutOfRange, tooManyRecords, fuseByte, bytesLeft}
 use Rattle.model.specs.Session.{startOf, countOf, frame, Read, stopped, all, more, readFrom}
 use Rattle.model.specs.Single.{isFuseByte}
 use Rattle.record.specs.RefusalNumber.{refusalNumber, number-some}
 use Rattle.record.specs.declared.refusal.Refusal.{Refusal}
-use Rattle.validate.specs.Check.{entriesTotal, Sized, unfit, sized, sizedOf, plus, checkOf}
+use Rattle.validate.specs.Check.{Sized, unfit, sized, sizedOf, plus, checkOf}
 
 -- ---- the frame
 
@@ -99,14 +100,14 @@ plus-zero : (x : Sized) → plus 0 x ≡ x
 plus-zero (unfit n) = refl
 plus-zero (sized n) = ap sized (let e : 0 + n ≡ n = omega arith in e)
 
-plus-more : (end t : ℕ) (k : Command) (r : Read) → plus t (sizedOf end (more k r)) ≡ plus (t + (3 + answerLength at88sc1608 k)) (sizedOf end r)
+plus-more : (end t : ℕ) (k : Instruction) (r : Read) → plus t (sizedOf end (more k r)) ≡ plus (t + (3 + fullAnswer at88sc1608 k)) (sizedOf end r)
 plus-more end t k (stopped n) = refl
 plus-more end t k (all ks i) = go (eqb i end)
   where
-    go : (b : Bool) → plus t (cond (not b) (unfit bytesLeft) (sized (3 + answerLength at88sc1608 k + entriesTotal ks)))
-        ≡ plus (t + (3 + answerLength at88sc1608 k)) (cond (not b) (unfit bytesLeft) (sized (entriesTotal ks)))
+    go : (b : Bool) → plus t (cond (not b) (unfit bytesLeft) (sized (3 + fullAnswer at88sc1608 k + fullTotal ks)))
+        ≡ plus (t + (3 + fullAnswer at88sc1608 k)) (cond (not b) (unfit bytesLeft) (sized (fullTotal ks)))
     go true =
-        ap sized (let e : t + (3 + answerLength at88sc1608 k + entriesTotal ks) ≡ t + (3 + answerLength at88sc1608 k) + entriesTotal ks = omega arith in e)
+        ap sized (let e : t + (3 + fullAnswer at88sc1608 k + fullTotal ks) ≡ t + (3 + fullAnswer at88sc1608 k) + fullTotal ks = omega arith in e)
     go false = refl
 
 -- what is known while records are left: the rest decides, with the entries so far
@@ -127,7 +128,7 @@ module _ (s : List ℕ) (start count at entries left : ℕ) (p : Checking s star
     checking-refused n e =
         sym (ap (λ (m : ℕ). plus entries (sizedOf (recordsEnd (length s)) (readFrom m s at))) one-fewer ∙ rw (← e)) ∙ p .rest
 
-    pub checking-next : (k : Command) (n a : ℕ) → whole k n ≡ nextOf s at → a ≡ answerLength at88sc1608 k → a < 65536
+    pub checking-next : (k : Instruction) (n a : ℕ) → whole k n ≡ nextOf s at → a ≡ fullAnswer at88sc1608 k → a < 65536
         → Checking s start count (at + n) (entries + (3 + a)) (left - 1)
     checking-next k n a next answers h =
         let f = p .few in

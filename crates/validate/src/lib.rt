@@ -22,7 +22,7 @@ use sizes::LEAST_SESSION;
 use sizes::MOST_RECORDS;
 use sizes::TRAILER;
 
-// A refusal, or how long the entries of the log will be.
+// A refusal, or how long the entries of the log would be if every record were answered in full.
 pub enum Checked {
     Refused(Refusal),
     Entries(usize),

@@ -1,15 +1,15 @@
 -- Each arm by what its part ensures.
-use mathlib.Core.Path.{refl}
+use mathlib.Core.Path.{_≡_, refl}
 use native.Mathlib.Omega.{arith}
 use borrow.Author.Needs.{needs}
+use Rattle.laws.specs.Loops.{tests}
 use Rattle.model.specs.Apply as any
 use Rattle.record.specs.DataLaws.{between-some}
-use Rattle.carry.proofs.CarriedLaws.{without-tries, with-tries}
+use Rattle.record.specs.DecodedRecord.{recordOf}
+use Rattle.record.specs.declared.decoder.Record.the-variants as kind
+use Rattle.carry.proofs.CarriedLaws.{without-tries, answered, passed, polled}
 use Rattle.carry.proofs.carry_out.Statement.{statement}
 use Rattle.carry.proofs.carry_out.Tie as tie
-
-enum-told : tie.Need-enum-told
-enum-told c = search needs
 
 power-up-requires : tie.Need-power-up-requires
 power-up-requires c κs = search needs
@@ -17,19 +17,20 @@ power-up-requires c κs = search needs
 reporting-requires : tie.Need-reporting-requires
 reporting-requires c κs = search needs
 
-enum-told-2 : tie.Need-enum-told-2
-enum-told-2 c = search needs
+left-requires : tie.Need-left-requires
+left-requires c κs = search needs
 
 answer-to-reset-requires : tie.Need-answer-to-reset-requires
+unfolding recordOf
 answer-to-reset-requires c κs =
-    let start = c .before .before .before .before .before .before .before in
-    (search needs, rw (c .before .before .enum-told2 .given .1) at (start .pre .room))
+    let start = c .before .before .before .before .before .before in
+    (search needs, rw (c .before .before .match .keys2) at (start .pre .room))
 
 reporting-requires-2 : tie.Need-reporting-requires-2
 reporting-requires-2 c κs = search needs
 
-enum-known-kind : tie.Need-enum-known-kind
-enum-known-kind c = search needs
+left-requires-2 : tie.Need-left-requires-2
+left-requires-2 c κs = search needs
 
 selecting-requires : tie.Need-selecting-requires
 selecting-requires c κs = search needs
@@ -37,36 +38,40 @@ selecting-requires c κs = search needs
 reporting-requires-3 : tie.Need-reporting-requires-3
 reporting-requires-3 c κs = search needs
 
-enum-known-kind-2 : tie.Need-enum-known-kind-2
-enum-known-kind-2 c = search needs
+left-requires-3 : tie.Need-left-requires-3
+left-requires-3 c κs = search needs
+
+read-count-requires : tie.Need-read-count-requires
+read-count-requires c κs = search needs
 
 cast-read-zone : tie.Need-cast-read-zone
 cast-read-zone c = search needs
 
 read-zone-requires : tie.Need-read-zone-requires
+unfolding recordOf
 read-zone-requires c κs =
-    let start = c .before .before .before .before .before .before .before .before in
-    let kind2 = c .before .before .before .kind2 in
-    (search needs, search needs, rw (kind2 .given .1) at (start .pre .room))
+    let start = c .before .before .before .before .before .before .before in
+    let the-match = c .before .before .before .match in
+    (search needs, search needs, rw (c .before .read-count .ensures) (rw (the-match .keys4) at (start .pre .room)))
 
 reporting-requires-4 : tie.Need-reporting-requires-4
 reporting-requires-4 c κs = search needs
 
-enum-known-kind-3 : tie.Need-enum-known-kind-3
-enum-known-kind-3 c = search needs
+left-requires-4 : tie.Need-left-requires-4
+left-requires-4 c κs = search needs
 
 sub-write-zone : tie.Need-sub-write-zone
+unfolding recordOf
 sub-write-zone c =
-    let kind3 = c .before .before .kind3 in
-    let start = c .before .before .before .before .before .before .before in
-    let f = rw (kind3 .given .1) at (start .pre .fields) in
+    let start = c .before .before .before .before .before in
+    let f = rw (c .before .match .keys5) at (start .pre .ranged) in
     omega (arith, between-some 3 (start .args .end) (start .args .«record» .now) (f .0))
 
 part-write-zone-start : tie.Need-part-write-zone-start
+unfolding recordOf
 part-write-zone-start c =
-    let kind3 = c .before .before .kind3 in
-    let start = c .before .before .before .before .before .before .before in
-    let f = rw (kind3 .given .1) at (start .pre .fields) in
+    let start = c .before .before .before .before .before in
+    let f = rw (c .before .match .keys5) at (start .pre .ranged) in
     omega (arith, between-some 3 (start .args .end) (start .args .«record» .now) (f .0))
 
 part-write-zone-end : tie.Need-part-write-zone-end
@@ -78,131 +83,154 @@ write-zone-requires c κs = search needs
 reporting-requires-5 : tie.Need-reporting-requires-5
 reporting-requires-5 c κs = search needs
 
-enum-known-kind-4 : tie.Need-enum-known-kind-4
-enum-known-kind-4 c = search needs
+left-requires-5 : tie.Need-left-requires-5
+left-requires-5 c κs = search needs
 
 cast-read-configuration : tie.Need-cast-read-configuration
 cast-read-configuration c = search needs
 
 read-configuration-requires : tie.Need-read-configuration-requires
+unfolding recordOf
 read-configuration-requires c κs =
-    let start = c .before .before .before .before .before .before .before .before in
-    let kind4 = c .before .before .before .kind4 in
-    (search needs, (rw (kind4 .given .1) at (start .pre .fields)) .1, rw (kind4 .given .1) at (start .pre .room))
+    let start = c .before .before .before .before .before .before .before in
+    let the-match = c .before .before .before .match in
+    (search needs, (rw (the-match .keys6) at (start .pre .ranged)) .1, rw (the-match .keys6) at (start .pre .room))
 
 reporting-requires-6 : tie.Need-reporting-requires-6
 reporting-requires-6 c κs = search needs
 
-enum-known-kind-5 : tie.Need-enum-known-kind-5
-enum-known-kind-5 c = search needs
+left-requires-6 : tie.Need-left-requires-6
+left-requires-6 c κs = search needs
 
 sub-write-configuration : tie.Need-sub-write-configuration
+unfolding recordOf
 sub-write-configuration c =
-    let kind5 = c .before .before .kind5 in
-    let start = c .before .before .before .before .before .before .before in
-    let f = rw (kind5 .given .1) at (start .pre .fields) in
+    let start = c .before .before .before .before .before in
+    let f = rw (c .before .match .keys7) at (start .pre .ranged) in
     omega (arith, between-some 3 (start .args .end) (start .args .«record» .now) (f .1))
 
 part-write-configuration-start : tie.Need-part-write-configuration-start
+unfolding recordOf
 part-write-configuration-start c =
-    let kind5 = c .before .before .kind5 in
-    let start = c .before .before .before .before .before .before .before in
-    let f = rw (kind5 .given .1) at (start .pre .fields) in
+    let start = c .before .before .before .before .before in
+    let f = rw (c .before .match .keys7) at (start .pre .ranged) in
     omega (arith, between-some 3 (start .args .end) (start .args .«record» .now) (f .1))
 
 part-write-configuration-end : tie.Need-part-write-configuration-end
 part-write-configuration-end c = search needs
 
 write-configuration-requires : tie.Need-write-configuration-requires
+unfolding recordOf
 write-configuration-requires c κs =
-    let start = c .before .before .before .before .before .before .before .before in
-    let kind5 = c .before .before .before .kind5 in
-    (search needs, (rw (kind5 .given .1) at (start .pre .fields)) .0)
+    let start = c .before .before .before .before .before .before in
+    (search needs, (rw (c .before .before .match .keys7) at (start .pre .ranged)) .0)
 
 reporting-requires-7 : tie.Need-reporting-requires-7
 reporting-requires-7 c κs = search needs
 
-enum-told-3 : tie.Need-enum-told-3
-enum-told-3 c = search needs
+left-requires-7 : tie.Need-left-requires-7
+left-requires-7 c κs = search needs
 
 read-fuses-requires : tie.Need-read-fuses-requires
+unfolding recordOf
 read-fuses-requires c κs =
-    let start = c .before .before .before .before .before .before .before in
-    (search needs, rw (c .before .before .enum-told3 .given .1) at (start .pre .room))
+    let start = c .before .before .before .before .before .before in
+    (search needs, rw (c .before .before .match .keys8) at (start .pre .room))
 
 reporting-requires-8 : tie.Need-reporting-requires-8
 reporting-requires-8 c κs = search needs
 
-enum-told-4 : tie.Need-enum-told-4
-enum-told-4 c = search needs
+left-requires-8 : tie.Need-left-requires-8
+left-requires-8 c κs = search needs
 
-write-fuses-requires : tie.Need-write-fuses-requires
-write-fuses-requires c κs = search needs
+blow-fuse-requires : tie.Need-blow-fuse-requires
+blow-fuse-requires c κs = search needs
 
-reporting-requires-9 : tie.Need-reporting-requires-9
-reporting-requires-9 c κs = search needs
-
-enum-known-kind-6 : tie.Need-enum-known-kind-6
-enum-known-kind-6 c = search needs
-
-sub-verify-password : tie.Need-sub-verify-password
-sub-verify-password c =
-    let kind6 = c .before .before .kind6 in
-    let start = c .before .before .before .before .before .before .before in
-    let f = rw (kind6 .given .1) at (start .pre .fields) in
+sub-present : tie.Need-sub-present
+unfolding recordOf
+sub-present c =
+    let start = c .before .before .before .before .before in
+    let f = rw (c .before .match .keys10) at (start .pre .ranged) in
     omega (arith, between-some 2 (start .args .end) (start .args .«record» .now) (omega (arith, f .1)))
 
-part-verify-password-start : tie.Need-part-verify-password-start
-part-verify-password-start c =
-    let kind6 = c .before .before .kind6 in
-    let start = c .before .before .before .before .before .before .before in
-    let f = rw (kind6 .given .1) at (start .pre .fields) in
+part-present-start : tie.Need-part-present-start
+unfolding recordOf
+part-present-start c =
+    let start = c .before .before .before .before .before in
+    let f = rw (c .before .match .keys10) at (start .pre .ranged) in
     omega (arith, between-some 2 (start .args .end) (start .args .«record» .now) (omega (arith, f .1)))
 
-part-verify-password-end : tie.Need-part-verify-password-end
-part-verify-password-end c = search needs
+part-present-end : tie.Need-part-present-end
+part-present-end c = search needs
 
-verify-password-requires : tie.Need-verify-password-requires
-verify-password-requires c κs =
-    let start = c .before .before .before .before .before .before .before .before in
-    let kind6 = c .before .before .before .kind6 in
-    (search needs, (rw (kind6 .given .1) at (start .pre .fields)) .1)
+present-requires : tie.Need-present-requires
+unfolding recordOf
+present-requires c κs =
+    let start = c .before .before .before .before .before .before in
+    (search needs, (rw (c .before .before .match .keys10) at (start .pre .ranged)) .1)
 
-enum-told-5 : tie.Need-enum-told-5
-enum-told-5 c = search needs
+begin-requires : tie.Need-begin-requires
+begin-requires c κs = search needs
 
-begin-authentication-requires : tie.Need-begin-authentication-requires
-begin-authentication-requires c κs = search needs
-
-enum-known-kind-7 : tie.Need-enum-known-kind-7
-enum-known-kind-7 c = search needs
-
-sub-verify-authentication : tie.Need-sub-verify-authentication
-sub-verify-authentication c =
-    let kind7 = c .before .before .kind7 in
-    let start = c .before .before .before .before .before .before .before in
-    let f = rw (kind7 .given .1) at (start .pre .fields) in
+sub-judge : tie.Need-sub-judge
+unfolding recordOf
+sub-judge c =
+    let start = c .before .before .before .before .before .before in
+    let f = rw (c .before .before .match .keys12) at (start .pre .ranged) in
     omega (arith, between-some 2 (start .args .end) (start .args .«record» .now) (omega (arith, f)))
 
-part-verify-authentication-start : tie.Need-part-verify-authentication-start
-part-verify-authentication-start c =
-    let kind7 = c .before .before .kind7 in
-    let start = c .before .before .before .before .before .before .before in
-    let f = rw (kind7 .given .1) at (start .pre .fields) in
+part-judge-start : tie.Need-part-judge-start
+unfolding recordOf
+part-judge-start c =
+    let start = c .before .before .before .before .before .before in
+    let f = rw (c .before .before .match .keys12) at (start .pre .ranged) in
     omega (arith, between-some 2 (start .args .end) (start .args .«record» .now) (omega (arith, f)))
 
-part-verify-authentication-end : tie.Need-part-verify-authentication-end
-part-verify-authentication-end c = search needs
+part-judge-end : tie.Need-part-judge-end
+part-judge-end c = search needs
 
-verify-authentication-requires : tie.Need-verify-authentication-requires
-verify-authentication-requires c κs =
-    let start = c .before .before .before .before .before .before .before .before in
-    let kind7 = c .before .before .before .kind7 in
-    (search needs, rw (kind7 .given .1) at (start .pre .fields))
+judge-requires : tie.Need-judge-requires
+unfolding recordOf
+judge-requires c κs =
+    let start = c .before .before .before .before .before .before .before in
+    let the-match = c .before .before .before .match in
+    (search needs, rw (the-match .keys12) at (start .pre .ranged))
+
+time-left-requires : tie.Need-time-left-requires
+time-left-requires c κs = search needs
+
+timed-requires : tie.Need-timed-requires
+timed-requires c κs = search needs
+
+quiet-requires : tie.Need-quiet-requires
+quiet-requires c κs = search needs
+
+busy-byte-requires : tie.Need-busy-byte-requires
+busy-byte-requires c κs = search needs
+
+slice-write-response : tie.Need-slice-write-response
+unfolding recordOf
+slice-write-response c =
+    let rest = c .before .match .rest .0 .0 .0 .0 .0 .0 .0 in
+    let e : (let head = c .before .before .before .before .before .args .head in recordOf (head .kind) (head .a) (head .n)) ≡ kind.Poll = search tests in
+    let start = c .before .before .before .before .before in
+    let h = rw e at (start .pre .room) in omega arith
+
+timed-requires-2 : tie.Need-timed-requires-2
+timed-requires-2 c κs = search needs
+
+quiet-requires-2 : tie.Need-quiet-requires-2
+quiet-requires-2 c κs = search needs
 
 returns : tie.Need-returns
-unfolding any.apply
-returns c = rw (c .before .before .enum-told .given .1) (without-tries _ _ _ _ _ _ _ _ _ (c .reporting .ensures) refl refl (c .before .power-up .ensures) refl)
+unfolding recordOf any.apply
+returns c =
+    let the-match = c .before .before .before .match in
+    rw (the-match .keys1)
+    (answered _ _ _ _ _ _ _ _
+    (without-tries _ _ _ _ _ _ _ _ _ (c .left .ensures .0) (c .left .ensures .1) refl _ (c .before .reporting .ensures) refl refl
+    (c .before .before .power-up .ensures))
+    refl)
 
 same-length : tie.Need-same-length
 same-length c = search needs
@@ -211,17 +239,25 @@ same-length-2 : tie.Need-same-length-2
 same-length-2 c = search needs
 
 returns-2 : tie.Need-returns-2
-unfolding any.apply
+unfolding recordOf any.apply
 returns-2 c =
-    let enum-told2 = c .before .before .before .before .before .before .enum-told2 in
-    let answer-to-reset = c .before .before .before .answer-to-reset in
-    rw (enum-told2 .given .1) (without-tries _ _ _ _ _ _ _ _ _ (c .reporting2 .ensures) refl refl (answer-to-reset .ensures .0) (answer-to-reset .ensures .1))
+    let the-match = c .before .before .before .before .before .before .before .match in
+    let answer-to-reset = c .before .before .before .before .answer-to-reset in
+    rw (the-match .keys2)
+    (answered _ _ _ _ _ _ _ _
+    (without-tries _ _ _ _ _ _ _ _ _ (c .left2 .ensures .0) (c .left2 .ensures .1) refl _ (c .before .reporting2 .ensures) refl refl
+    (answer-to-reset .ensures .0))
+    (answer-to-reset .ensures .1))
 
 returns-3 : tie.Need-returns-3
-unfolding any.apply
+unfolding recordOf any.apply
 returns-3 c =
-    let kind = c .before .before .before .kind in
-    rw (kind .given .1) (without-tries _ _ _ _ _ _ _ _ _ (c .reporting3 .ensures) refl refl (c .before .selecting .ensures) refl)
+    let the-match = c .before .before .before .match in
+    rw (the-match .keys3)
+    (answered _ _ _ _ _ _ _ _
+    (without-tries _ _ _ _ _ _ _ _ _ (c .left3 .ensures .0) (c .left3 .ensures .1) refl _ (c .before .reporting3 .ensures) refl refl
+    (c .before .before .selecting .ensures))
+    refl)
 
 same-length-3 : tie.Need-same-length-3
 same-length-3 c = search needs
@@ -230,21 +266,28 @@ same-length-4 : tie.Need-same-length-4
 same-length-4 c = search needs
 
 returns-4 : tie.Need-returns-4
-unfolding any.apply
+unfolding recordOf any.apply
 returns-4 c =
-    let kind2 = c .before .before .before .before .before .before .before .kind2 in
-    let read-zone = c .before .before .before .read-zone in
-    rw (kind2 .given .1) (without-tries _ _ _ _ _ _ _ _ _ (c .reporting4 .ensures) refl refl refl (read-zone .ensures))
+    let the-match = c .before .before .before .before .before .before .before .before .match in
+    let read-count = c .before .before .before .before .before .before .read-count in
+    let read-zone = c .before .before .before .before .read-zone in
+    rw (the-match .keys4, ← (read-count .ensures))
+    (answered _ _ _ _ _ _ _ _
+    (without-tries _ _ _ _ _ _ _ _ _ (c .left4 .ensures .0) (c .left4 .ensures .1) refl _ (c .before .reporting4 .ensures) refl refl refl)
+    (read-zone .ensures))
 
 same-length-5 : tie.Need-same-length-5
 same-length-5 c = search needs
 
 returns-5 : tie.Need-returns-5
-unfolding any.apply
+unfolding recordOf any.apply
 returns-5 c =
-    let kind3 = c .before .before .before .before .before .before .before .kind3 in
-    let write-zone = c .before .before .before .write-zone in
-    rw (kind3 .given .1) (without-tries _ _ _ _ _ _ _ _ _ (c .reporting5 .ensures) refl (write-zone .ensures) refl refl)
+    let the-match = c .before .before .before .before .before .before .before .match in
+    let write-zone = c .before .before .before .before .write-zone in
+    rw (the-match .keys5)
+    (answered _ _ _ _ _ _ _ _
+    (without-tries _ _ _ _ _ _ _ _ _ (c .left5 .ensures .0) (c .left5 .ensures .1) refl _ (c .before .reporting5 .ensures) refl (write-zone .ensures) refl)
+    refl)
 
 same-length-6 : tie.Need-same-length-6
 same-length-6 c = search needs
@@ -253,21 +296,28 @@ same-length-7 : tie.Need-same-length-7
 same-length-7 c = search needs
 
 returns-6 : tie.Need-returns-6
-unfolding any.apply
+unfolding recordOf any.apply
 returns-6 c =
-    let kind4 = c .before .before .before .before .before .before .before .kind4 in
-    let read-configuration = c .before .before .before .read-configuration in
-    rw (kind4 .given .1) (without-tries _ _ _ _ _ _ _ _ _ (c .reporting6 .ensures) refl refl refl (read-configuration .ensures))
+    let the-match = c .before .before .before .before .before .before .before .before .match in
+    let read-configuration = c .before .before .before .before .read-configuration in
+    rw (the-match .keys6)
+    (answered _ _ _ _ _ _ _ _
+    (without-tries _ _ _ _ _ _ _ _ _ (c .left6 .ensures .0) (c .left6 .ensures .1) refl _ (c .before .reporting6 .ensures) refl refl refl)
+    (read-configuration .ensures))
 
 same-length-8 : tie.Need-same-length-8
 same-length-8 c = search needs
 
 returns-7 : tie.Need-returns-7
-unfolding any.apply
+unfolding recordOf any.apply
 returns-7 c =
-    let kind5 = c .before .before .before .before .before .before .before .kind5 in
-    let write-configuration = c .before .before .before .write-configuration in
-    rw (kind5 .given .1) (without-tries _ _ _ _ _ _ _ _ _ (c .reporting7 .ensures) refl (write-configuration .ensures) refl refl)
+    let the-match = c .before .before .before .before .before .before .before .match in
+    let write-configuration = c .before .before .before .before .write-configuration in
+    rw (the-match .keys7)
+    (answered _ _ _ _ _ _ _ _
+    (without-tries _ _ _ _ _ _ _ _ _ (c .left7 .ensures .0) (c .left7 .ensures .1) refl _ (c .before .reporting7 .ensures) refl
+    (write-configuration .ensures) refl)
+    refl)
 
 same-length-9 : tie.Need-same-length-9
 same-length-9 c = search needs
@@ -276,102 +326,124 @@ same-length-10 : tie.Need-same-length-10
 same-length-10 c = search needs
 
 returns-8 : tie.Need-returns-8
-unfolding any.apply
+unfolding recordOf any.apply
 returns-8 c =
-    let enum-told3 = c .before .before .before .before .before .before .enum-told3 in
-    let read-fuses = c .before .before .before .read-fuses in
-    rw (enum-told3 .given .1) (without-tries _ _ _ _ _ _ _ _ _ (c .reporting8 .ensures) refl refl refl (read-fuses .ensures))
+    let the-match = c .before .before .before .before .before .before .before .match in
+    let read-fuses = c .before .before .before .before .read-fuses in
+    rw (the-match .keys8)
+    (answered _ _ _ _ _ _ _ _
+    (without-tries _ _ _ _ _ _ _ _ _ (c .left8 .ensures .0) (c .left8 .ensures .1) refl _ (c .before .reporting8 .ensures) refl refl refl)
+    (read-fuses .ensures))
 
 same-length-11 : tie.Need-same-length-11
 same-length-11 c = search needs
 
 returns-9 : tie.Need-returns-9
-unfolding any.apply
+unfolding recordOf any.apply
 returns-9 c =
-    let enum-told4 = c .before .before .before .before .before .enum-told4 in
-    let write-fuses = c .before .before .before .write-fuses in
-    rw (enum-told4 .given .1) (without-tries _ _ _ _ _ _ _ _ _ (c .reporting9 .ensures) refl (write-fuses .ensures) refl refl)
+    let the-match = c .before .before .before .before .match in
+    rw (the-match .keys9) (answered _ _ _ _ _ _ _ _ (c .before .before .blow-fuse .ensures) refl)
 
 same-length-12 : tie.Need-same-length-12
 same-length-12 c = search needs
 
 returns-10 : tie.Need-returns-10
-unfolding any.apply
+unfolding recordOf any.apply
 returns-10 c =
-    let kind6 = c .before .before .before .before .before .before .kind6 in
-    rw (kind6 .given .1) (with-tries _ _ _ _ _ _ _ _ (c .before .before .verify-password .ensures .0) (c .before .before .verify-password .ensures .1) refl)
+    let the-match = c .before .before .before .before .before .match in
+    rw (the-match .keys10) (answered _ _ _ _ _ _ _ _ (c .before .before .present .ensures) refl)
 
 same-length-13 : tie.Need-same-length-13
 same-length-13 c = search needs
 
 returns-11 : tie.Need-returns-11
-unfolding any.apply
+unfolding recordOf any.apply
 returns-11 c =
-    let enum-told5 = c .before .before .before .before .enum-told5 in
-    let begun = c .before .before .begin-authentication in
-    rw (enum-told5 .given .1) (with-tries _ _ _ _ _ _ _ _ (begun .ensures .0) (begun .ensures .1) refl)
+    let the-match = c .before .before .before .before .match in
+    rw (the-match .keys11) (answered _ _ _ _ _ _ _ _ (c .before .before .begin .ensures) refl)
 
 same-length-14 : tie.Need-same-length-14
 same-length-14 c = search needs
 
 returns-12 : tie.Need-returns-12
-unfolding any.apply
+unfolding recordOf any.apply
 returns-12 c =
-    let kind7 = c .before .before .before .before .before .before .kind7 in
-    let judged = c .before .before .verify-authentication in
-    rw (kind7 .given .1) (with-tries _ _ _ _ _ _ _ _ (judged .ensures .0) (judged .ensures .1) refl)
+    let the-match = c .before .before .before .before .before .before .match in
+    rw (the-match .keys12) (answered _ _ _ _ _ _ _ _ (c .before .before .judge .ensures) refl)
+
+returns-13 : tie.Need-returns-13
+unfolding recordOf
+returns-13 c =
+    let the-match = c .before .before .before .match in
+    rw (the-match .keys13) (passed _ _ _ _ _ _ _ _ (c .quiet .ensures .0) (c .quiet .ensures .1) (c .before .timed .ensures)
+    (c .before .before .time-left .ensures))
+
+same-length-15 : tie.Need-same-length-15
+same-length-15 c = search needs
+
+returns-14 : tie.Need-returns-14
+unfolding recordOf
+returns-14 c =
+    let rest = c .before .before .before .match .rest .0 .0 .0 .0 .0 .0 .0 in
+    let e : (let head = c .before .before .before .before .before .before .before .args .head in recordOf (head .kind) (head .a) (head .n)) ≡ kind.Poll = search tests in
+    let start = c .before .before .before .before .before .before .before in
+    rw e (polled _ _ _ _ _ _ _ (c .quiet2 .ensures .0) (c .quiet2 .ensures .1) (c .before .timed2 .ensures) (rw e at (start .pre .room))
+    (c .before .before .busy-byte .ensures))
 
 pub carry-out-spec : {M : Type 1} → statement M
 carry-out-spec =
     tie.close
     (tie.spec
-    enum-told
     power-up-requires
     reporting-requires
-    enum-told-2
+    left-requires
     answer-to-reset-requires
     reporting-requires-2
-    enum-known-kind
+    left-requires-2
     selecting-requires
     reporting-requires-3
-    enum-known-kind-2
+    left-requires-3
+    read-count-requires
     cast-read-zone
     read-zone-requires
     reporting-requires-4
-    enum-known-kind-3
+    left-requires-4
     sub-write-zone
     part-write-zone-start
     part-write-zone-end
     write-zone-requires
     reporting-requires-5
-    enum-known-kind-4
+    left-requires-5
     cast-read-configuration
     read-configuration-requires
     reporting-requires-6
-    enum-known-kind-5
+    left-requires-6
     sub-write-configuration
     part-write-configuration-start
     part-write-configuration-end
     write-configuration-requires
     reporting-requires-7
-    enum-told-3
+    left-requires-7
     read-fuses-requires
     reporting-requires-8
-    enum-told-4
-    write-fuses-requires
-    reporting-requires-9
-    enum-known-kind-6
-    sub-verify-password
-    part-verify-password-start
-    part-verify-password-end
-    verify-password-requires
-    enum-told-5
-    begin-authentication-requires
-    enum-known-kind-7
-    sub-verify-authentication
-    part-verify-authentication-start
-    part-verify-authentication-end
-    verify-authentication-requires
+    left-requires-8
+    blow-fuse-requires
+    sub-present
+    part-present-start
+    part-present-end
+    present-requires
+    begin-requires
+    sub-judge
+    part-judge-start
+    part-judge-end
+    judge-requires
+    time-left-requires
+    timed-requires
+    quiet-requires
+    busy-byte-requires
+    slice-write-response
+    timed-requires-2
+    quiet-requires-2
     returns
     same-length
     same-length-2
@@ -397,4 +469,7 @@ carry-out-spec =
     same-length-13
     returns-11
     same-length-14
-    returns-12)
+    returns-12
+    returns-13
+    same-length-15
+    returns-14)

@@ -29,13 +29,10 @@ returns-2 c =
 
 write-log-requires : tie.Need-write-log-requires
 write-log-requires c κs =
-    let if1 = c .before .before .if1 in
     let check = c .before .before .before .before .before .before .check in
     let entries = c .before .before .before .before .entries in
-    log-ready _ _ _ (sym (ap checkedOf (entries .given .1)) ∙ check .ensures) (let h = c .before .if2 .left in let l = if1 .left in omega arith)
-
-add-t12 : tie.Need-add-t12
-add-t12 c = search needs
+    log-ready _ _ _ (sym (ap checkedOf (entries .given .1)) ∙ check .ensures)
+    (let h = c .before .if2 .left in let l = c .before .before .if1 .left in omega arith)
 
 returns-3 : tie.Need-returns-3
 returns-3 c =
@@ -47,12 +44,12 @@ same-length c = search needs
 
 returns-4 : tie.Need-returns-4
 returns-4 c =
-    let write-log = c .before .before .write-log in
     let check = c .before .before .before .before .before .before .before .before .before .check in
     let entries = c .before .before .before .before .before .before .before .entries in
     let if1 = c .before .before .before .before .before .if1 in
     let if2 = c .before .before .before .before .if2 in
-    run-logged _ _ _ (sym (ap checkedOf (entries .given .1)) ∙ check .ensures) (let h = if2 .left in let l = if1 .left in omega arith) _ (write-log .ensures)
+    run-logged _ _ _ (sym (ap checkedOf (entries .given .1)) ∙ check .ensures) (let h = if2 .left in let l = if1 .left in omega arith) _ _
+    (c .before .before .write-log .ensures)
 
 pub run-spec : {M : Type 1} → statement M
 run-spec =
@@ -64,7 +61,6 @@ run-spec =
     returns
     returns-2
     write-log-requires
-    add-t12
     returns-3
     same-length
     returns-4)

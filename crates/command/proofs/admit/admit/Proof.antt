@@ -42,8 +42,8 @@ returns-2 c =
 head-of-requires : tie.Need-head-of-requires
 head-of-requires c κs = search needs
 
-answer-length-requires : tie.Need-answer-length-requires
-answer-length-requires c κs =
+needed-requires : tie.Need-needed-requires
+needed-requires c κs =
     let start = c .before .before .before .before .before .before .before .before .before .before .before in
     let check = c .before .before .before .before .before .before .before .before .check in
     let enum-told = c .before .before .before .before .before .before .enum-told in
@@ -51,9 +51,6 @@ answer-length-requires c κs =
     let kind = c .before .before .before .kind in
     known-head _ _ _ 0 (sym (ap outcomeNumber (enum-told .given .1)) ∙ check .ensures) (kind .given .0 .0) _
     (sym (ap (decodedOf (start .args .«record» .now)) (kind .given .1)) ∙ decode .ensures) _ (c .head-of .ensures)
-
-cast-if2 : tie.Need-cast-if2
-cast-if2 c = search needs
 
 returns-3 : tie.Need-returns-3
 returns-3 c =
@@ -65,7 +62,7 @@ returns-3 c =
     let if1 = c .before .before .before .if1 in
     no-room _ _ _ _ (sym (ap outcomeNumber (enum-told .given .1)) ∙ check .ensures) (kind .given .0 .0) _
     (sym (ap (decodedOf (start .args .«record» .now)) (kind .given .1)) ∙ decode .ensures)
-    _ (c .before .before .head-of .ensures) _ (if1 .left) (c .before .answer-length .ensures) (c .if2 .taken)
+    _ (c .before .before .head-of .ensures) _ (if1 .left) (c .before .needed .ensures) (c .if2 .taken)
 
 returns-4 : tie.Need-returns-4
 returns-4 c =
@@ -86,7 +83,7 @@ returns-5 c =
     let if1 = c .before .before .before .if1 in
     is-admitted _ _ _ _ (sym (ap outcomeNumber (enum-told .given .1)) ∙ check .ensures) (kind .given .0 .0) _
     (sym (ap (decodedOf (start .args .«record» .now)) (kind .given .1)) ∙ decode .ensures)
-    _ (c .before .before .head-of .ensures) _ (if1 .left) (c .before .answer-length .ensures) (c .if2 .left)
+    _ (c .before .before .head-of .ensures) _ (if1 .left) (c .before .needed .ensures) (c .if2 .left)
 
 pub admit-spec : {M : Type 1} → statement M
 admit-spec =
@@ -101,8 +98,7 @@ admit-spec =
     enum-known-kind
     returns-2
     head-of-requires
-    answer-length-requires
-    cast-if2
+    needed-requires
     returns-3
     returns-4
     returns-5)

@@ -1,6 +1,6 @@
 -- Each return by the tests that led to it.
 use borrow.Author.Needs.{needs}
-use Rattle.exports.proofs.StateByteLaws.{bad-length, bad-zone, bad-authentication, by-active}
+use Rattle.exports.proofs.StateByteLaws.{bad-length, bad-zone, bad-authentication, bad-time, by-active}
 use Rattle.exports.proofs.state.is_state.Statement.{statement}
 use Rattle.exports.proofs.state.is_state.Tie as tie
 
@@ -19,6 +19,12 @@ shared-slice-read-if3 c = search needs
 returns-3 : tie.Need-returns-3
 returns-3 c = search bad-authentication
 
+shared-slice-read-if4 : tie.Need-shared-slice-read-if4
+shared-slice-read-if4 c = search needs
+
+returns-4 : tie.Need-returns-4
+returns-4 c = search bad-time
+
 shared-slice-read-active-in-range : tie.Need-shared-slice-read-active-in-range
 shared-slice-read-active-in-range c = search needs
 
@@ -28,8 +34,8 @@ shared-slice-read-active-in-range-2 c = search needs
 active-in-range-requires : tie.Need-active-in-range-requires
 active-in-range-requires c κs = search needs
 
-returns-4 : tie.Need-returns-4
-returns-4 c = search by-active
+returns-5 : tie.Need-returns-5
+returns-5 c = search by-active
 
 pub is-state-spec : {M : Type 1} → statement M
 is-state-spec =
@@ -40,7 +46,9 @@ is-state-spec =
     returns-2
     shared-slice-read-if3
     returns-3
+    shared-slice-read-if4
+    returns-4
     shared-slice-read-active-in-range
     shared-slice-read-active-in-range-2
     active-in-range-requires
-    returns-4)
+    returns-5)

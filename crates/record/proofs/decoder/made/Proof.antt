@@ -54,7 +54,15 @@ returns-11 c = rw (c .match .keys11)
 
 returns-12 : tie.Need-returns-12
 unfolding recordOf
-returns-12 c = search tests
+returns-12 c = rw (c .match .keys12)
+
+returns-13 : tie.Need-returns-13
+unfolding recordOf
+returns-13 c = rw (c .match .keys13)
+
+returns-14 : tie.Need-returns-14
+unfolding recordOf
+returns-14 c = search tests
 
 pub made-spec : {M : Type 1} → statement M
 made-spec =
@@ -72,4 +80,6 @@ made-spec =
     returns-9
     returns-10
     returns-11
-    returns-12)
+    returns-12
+    returns-13
+    returns-14)

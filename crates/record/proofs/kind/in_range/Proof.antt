@@ -1,4 +1,4 @@
--- The digit of the kind and the count, each by its test.
+-- The digit of the kind, the count and the time, each by its test.
 use borrow.Author.Needs.{needs}
 use Rattle.record.proofs.DigitLaws.{range-digit}
 use Rattle.record.proofs.kind.in_range.Statement.{statement}
@@ -13,18 +13,24 @@ shr-above c = search needs
 either-requires : tie.Need-either-requires
 either-requires c κs = search needs
 
+either-requires-2 : tie.Need-either-requires-2
+either-requires-2 c κs = search needs
+
 count-in-range-requires : tie.Need-count-in-range-requires
 count-in-range-requires c κs = search needs
 
-either-requires-2 : tie.Need-either-requires-2
-either-requires-2 c κs = search needs
+either-requires-3 : tie.Need-either-requires-3
+either-requires-3 c κs = search needs
 
 both-requires : tie.Need-both-requires
 both-requires c κs = search needs
 
+both-requires-2 : tie.Need-both-requires-2
+both-requires-2 c κs = search needs
+
 returns : tie.Need-returns
 returns c =
-    let start = c .before .before .before .before .before in
+    let start = c .before .before .before .before .before .before .before in
     let h = range-digit (start .args .a) (start .args .n) (search needs) (start .args .kind) (search needs) in cc
 
 pub in-range-spec : {M : Type 1} → statement M
@@ -34,7 +40,9 @@ in-range-spec =
     digit-requires
     shr-above
     either-requires
-    count-in-range-requires
     either-requires-2
+    count-in-range-requires
+    either-requires-3
     both-requires
+    both-requires-2
     returns)

@@ -2,14 +2,14 @@
 use mathlib.Core.Path.{sym, _∙_}
 use native.Mathlib.Omega.{arith}
 use borrow.Author.Needs.{needs}
-use Rattle.access.specs.State.{volatileOf}
+use Rattle.busy.specs.TimedState.{stateOf}
 use Rattle.session.proofs.SessionWriteLaws.{Going, going-start, going-known, going-ready, going-forth, going-room, going-next, going-done}
 use Rattle.session.proofs.write.run_records.Statement.{statement}
 use Rattle.session.proofs.write.run_records.Tie as tie
 
 abbrev Inv-loop : tie.InvT-loop
 Inv-loop session start count card₀ log₀ end state₀ at₀ place₀ left₀ card log state at place left =
-    Going session start count card₀ log₀ at place left card (volatileOf state) log
+    Going session start count card₀ log₀ at place left card (stateOf state) log
 
 abbrev μ-loop : tie.MeasureT-loop
 μ-loop session start count card₀ log₀ end state₀ at₀ place₀ left₀ card log state at place left = left
@@ -17,13 +17,13 @@ abbrev μ-loop : tie.MeasureT-loop
 records-end-requires : tie.Need-records-end-requires Inv-loop μ-loop
 records-end-requires c κs = search needs
 
-power-up-requires : tie.Need-power-up-requires Inv-loop μ-loop
-power-up-requires c κs = search needs
+power-on-requires : tie.Need-power-on-requires Inv-loop μ-loop
+power-on-requires c κs = search needs
 
 loop-holds : tie.Need-loop-holds Inv-loop μ-loop
 loop-holds c =
     let start = c .before .before .before .before .before in
-    going-start _ _ _ _ _ _ (c .power-up .ensures) (start .pre)
+    going-start _ _ _ _ _ _ (c .power-on .ensures) (start .pre)
 
 sub-head-of : tie.Need-sub-head-of Inv-loop μ-loop
 sub-head-of c = let f = c .before .loop .inv .forth in let e = c .before .before .before .records-end .ensures in search needs
@@ -40,17 +40,20 @@ head-of-requires c κs = search needs
 sub-write-entry : tie.Need-sub-write-entry Inv-loop μ-loop
 sub-write-entry c =
     let f = c .before .before .before .loop .inv .forth in
-    let e = c .before .before .before .before .before .records-end .ensures in search needs
+    let e = c .before .before .before .before .before .records-end .ensures in
+    search needs
 
 part-write-entry-start : tie.Need-part-write-entry-start Inv-loop μ-loop
 part-write-entry-start c =
     let f = c .before .before .before .loop .inv .forth in
-    let e = c .before .before .before .before .before .records-end .ensures in search needs
+    let e = c .before .before .before .before .before .records-end .ensures in
+    search needs
 
 part-write-entry-end : tie.Need-part-write-entry-end Inv-loop μ-loop
 part-write-entry-end c =
     let f = c .before .before .before .loop .inv .forth in
-    let e = c .before .before .before .before .before .records-end .ensures in search needs
+    let e = c .before .before .before .before .before .records-end .ensures in
+    search needs
 
 write-entry-requires : tie.Need-write-entry-requires Inv-loop μ-loop
 write-entry-requires c κs =
@@ -62,44 +65,48 @@ write-entry-requires c κs =
 
 record-length-requires : tie.Need-record-length-requires Inv-loop μ-loop
 record-length-requires c κs =
-    let records-end = c .before .before .before .before .before .before .before .before .before .before .before .before .before .records-end in
-    let the-loop = c .before .before .before .before .before .before .before .before .before .before .before .loop in
-    let loop-test = c .before .before .before .before .before .before .before .before .before .before .loop-test in
-    let head-of = c .before .before .before .before .before .before .before .before .head-of in
+    let records-end = c .before .before .before .before .before .before .before .before .before .before .before .before .before .before .records-end in
+    let the-loop = c .before .before .before .before .before .before .before .before .before .before .before .before .loop in
+    let loop-test = c .before .before .before .before .before .before .before .before .before .before .before .loop-test in
+    let head-of = c .before .before .before .before .before .before .before .before .before .head-of in
     going-known _ _ _ _ _ _ _ _ _ _ _ (the-loop .inv) (loop-test .taken) _ (rw (records-end .ensures) at (head-of .ensures))
 
 add-at : tie.Need-add-at Inv-loop μ-loop
 add-at c =
-    let records-end = c .before .before .before .before .before .before .before .before .before .before .before .before .before .before .records-end in
-    let the-loop = c .before .before .before .before .before .before .before .before .before .before .before .before .loop in
-    let loop-test = c .before .before .before .before .before .before .before .before .before .before .before .loop-test in
-    let head-of = c .before .before .before .before .before .before .before .before .before .head-of in
+    let records-end = c .before .before .before .before .before .before .before .before .before .before .before .before .before .before .before .records-end in
+    let the-loop = c .before .before .before .before .before .before .before .before .before .before .before .before .before .loop in
+    let loop-test = c .before .before .before .before .before .before .before .before .before .before .before .before .loop-test in
+    let head-of = c .before .before .before .before .before .before .before .before .before .before .head-of in
     let h = rw (records-end .ensures) at (head-of .ensures) in
     let w = going-forth _ _ _ _ _ _ _ _ _ _ _ (the-loop .inv) (loop-test .taken) _ h _ (c .record-length .ensures) in omega arith
 
-answer-length-requires : tie.Need-answer-length-requires Inv-loop μ-loop
-answer-length-requires c κs =
-    let records-end = c .before .before .before .before .before .before .before .before .before .before .before .before .before .before .records-end in
-    let the-loop = c .before .before .before .before .before .before .before .before .before .before .before .before .loop in
-    let loop-test = c .before .before .before .before .before .before .before .before .before .before .before .loop-test in
-    let head-of = c .before .before .before .before .before .before .before .before .before .head-of in
-    going-known _ _ _ _ _ _ _ _ _ _ _ (the-loop .inv) (loop-test .taken) _ (rw (records-end .ensures) at (head-of .ensures))
-
-cast-place : tie.Need-cast-place Inv-loop μ-loop
-cast-place c = search needs
-
 add-place : tie.Need-add-place Inv-loop μ-loop
-add-place c = search needs
+add-place c =
+    let start =
+    c .before .before .before .before .before .before .before .before .before .before .before .before
+    .before .before .before .before .before .before .before .before in
+    let records-end =
+    c .before .before .before .before .before .before .before .before .before .before .before .before
+    .before .before .before .before .records-end in
+    let the-loop = c .before .before .before .before .before .before .before .before .before .before .before .before .before .before .loop in
+    let loop-test = c .before .before .before .before .before .before .before .before .before .before .before .before .before .loop-test in
+    let write-entry = c .before .before .before .before .before .before .before .write-entry in
+    let w = going-room _ _ _ _ _ _ _ _ _ _ _ (the-loop .inv) (loop-test .taken) _ _ _ _ (rw (records-end .ensures) at (write-entry .ensures)) in
+    let l = the-loop .inv .long in
+    let b = start .good .1 .1 .1 .1 .0 .0 in omega arith
 
 add-place-2 : tie.Need-add-place-2 Inv-loop μ-loop
 add-place-2 c =
-    let body = c .before .before .before .before .before .before .before .before .before .before .before .before in
-    let start = body .before .before .before .before .before .before .before in
-    let records-end = body .before .before .before .records-end in
-    let the-loop = body .before .loop in
-    let head-of = c .before .before .before .before .before .before .before .before .before .before .head-of in
-    let h = rw (records-end .ensures) at (head-of .ensures) in
-    let w = going-room _ _ _ _ _ _ _ _ _ _ _ (the-loop .inv) (body .loop-test .taken) _ h _ (c .answer-length .ensures) in
+    let start =
+    c .before .before .before .before .before .before .before .before .before .before .before .before
+    .before .before .before .before .before .before .before .before in
+    let records-end =
+    c .before .before .before .before .before .before .before .before .before .before .before .before
+    .before .before .before .before .records-end in
+    let the-loop = c .before .before .before .before .before .before .before .before .before .before .before .before .before .before .loop in
+    let loop-test = c .before .before .before .before .before .before .before .before .before .before .before .before .before .loop-test in
+    let write-entry = c .before .before .before .before .before .before .before .write-entry in
+    let w = going-room _ _ _ _ _ _ _ _ _ _ _ (the-loop .inv) (loop-test .taken) _ _ _ _ (rw (records-end .ensures) at (write-entry .ensures)) in
     let l = the-loop .inv .long in
     let b = start .good .1 .1 .1 .1 .0 .0 in omega arith
 
@@ -111,18 +118,20 @@ loop-less c = search needs
 
 loop-again : tie.Need-loop-again Inv-loop μ-loop
 loop-again c =
-    let records-end = c .before .before .before .before .before .before .before .before .before .before .before .before .before .before .before .records-end in
-    let the-loop = c .before .before .before .before .before .before .before .before .before .before .before .before .before .loop in
-    let loop-test = c .before .before .before .before .before .before .before .before .before .before .before .before .loop-test in
-    let head-of = c .before .before .before .before .before .before .before .before .before .before .head-of in
-    let write-entry = c .before .before .before .before .before .before .write-entry in
-    going-next _ _ _ _ _ _ _ _ _ _ _ (the-loop .inv) (loop-test .taken) _ (rw (records-end .ensures) at (head-of .ensures))
-    _ _ _ _ _ (c .before .record-length .ensures) (c .answer-length .ensures) (rw (records-end .ensures) at (write-entry .ensures))
+    let records-end =
+    c .before .before .before .before .before .before .before .before .before .before .before .before
+    .before .before .before .before .records-end in
+    let the-loop = c .before .before .before .before .before .before .before .before .before .before .before .before .before .before .loop in
+    let loop-test = c .before .before .before .before .before .before .before .before .before .before .before .before .before .loop-test in
+    let head-of = c .before .before .before .before .before .before .before .before .before .before .before .head-of in
+    let write-entry = c .before .before .before .before .before .before .before .write-entry in
+    going-next _ _ _ _ _ _ _ _ _ _ _ (the-loop .inv) (loop-test .taken) _ _ _ _ (rw (records-end .ensures) at (write-entry .ensures))
+    _ (rw (records-end .ensures) at (head-of .ensures)) _ (c .before .record-length .ensures)
 
 same-length : tie.Need-same-length Inv-loop μ-loop
 same-length c =
     let start = c .before .before .before .before .before .before .before in
-    c .before .loop .inv .good .long ∙ sym (start .pre .good .long)
+    c .before .loop .inv .good .fit .long ∙ sym (start .pre .good .fit .long)
 
 same-length-2 : tie.Need-same-length-2 Inv-loop μ-loop
 same-length-2 c = c .before .loop .inv .long
@@ -137,7 +146,7 @@ run-records-spec =
     Inv-loop
     μ-loop
     records-end-requires
-    power-up-requires
+    power-on-requires
     loop-holds
     sub-head-of
     part-head-of-start
@@ -149,8 +158,6 @@ run-records-spec =
     write-entry-requires
     record-length-requires
     add-at
-    answer-length-requires
-    cast-place
     add-place
     add-place-2
     sub-left

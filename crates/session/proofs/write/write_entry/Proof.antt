@@ -1,27 +1,46 @@
--- The entry's header, then its response, each in its place.
+-- The header of an ignored record; or a header, then the response, each in its place.
 use mathlib.Core.Path.{refl}
+use native.Mathlib.Omega.{arith}
 use borrow.Author.Needs.{needs}
-use Rattle.session.proofs.SessionWriteLaws.{entry-known, entry-ready, entry-written}
+use Rattle.session.proofs.SessionWriteLaws.{entry-known, entry-ignored, entry-ready, entry-written}
 use Rattle.session.proofs.write.write_entry.Statement.{statement}
 use Rattle.session.proofs.write.write_entry.Tie as tie
 
-answer-length-requires : tie.Need-answer-length-requires
-answer-length-requires c κs =
-    let start = c .before .before .before in
-    entry-known _ _ _ _ (start .pre .1) _ (start .pre .0)
+is-ignored-requires : tie.Need-is-ignored-requires
+is-ignored-requires c κs = search needs
 
-cast-answer : tie.Need-cast-answer
-cast-answer c = search needs
+add-put-header : tie.Need-add-put-header
+add-put-header c =
+    let start = c .before .before .before .before .before .before .before in
+    let k = entry-known _ _ _ _ (start .pre .1) _ (start .pre .0) in omega arith
 
 put-header-requires : tie.Need-put-header-requires
 put-header-requires c κs = search needs
 
-made-requires : tie.Need-made-requires
-made-requires c κs = search needs
+same-length : tie.Need-same-length
+same-length c = search needs
+
+returns : tie.Need-returns
+returns c =
+    let start = c .before .before .before .before .before .before .before .before .before .before in
+    let is-ignored = c .before .before .before .before .before .before .is-ignored in
+    let if1 = c .before .before .before .before .before .if1 in
+    entry-ignored _ _ _ _ (start .pre .1) _ (start .pre .0) _ (is-ignored .ensures) (if1 .taken) _ (c .before .before .put-header .ensures)
+
+answer-length-requires : tie.Need-answer-length-requires
+answer-length-requires c κs =
+    let start = c .before .before .before .before .before in
+    entry-known _ _ _ _ (start .pre .1) _ (start .pre .0)
+
+cast-response : tie.Need-cast-response
+cast-response c = search needs
+
+put-header-requires-2 : tie.Need-put-header-requires-2
+put-header-requires-2 c κs = search needs
 
 record-length-requires : tie.Need-record-length-requires
 record-length-requires c κs =
-    let start = c .before .before .before .before .before .before .before .before .before in
+    let start = c .before .before .before .before .before .before .before .before .before .before in
     entry-known _ _ _ _ (start .pre .1) _ (start .pre .0)
 
 add-from : tie.Need-add-from
@@ -38,46 +57,55 @@ part-carry-out-end c = search needs
 
 carry-out-requires : tie.Need-carry-out-requires
 carry-out-requires c κs =
-    let start = c .before .before .before .before .before .before .before .before .before .before .before .before in
+    let start = c .before .before .before .before .before .before .before .before .before .before .before .before .before .before in
+    let is-ignored = c .before .before .before .before .before .before .before .before .before .before .is-ignored in
+    let if1 = c .before .before .before .before .before .before .before .before .before .if1 in
     let answer-length = c .before .before .before .before .before .before .before .before .answer-length in
-    let put-header = c .before .before .before .before .before .before .put-header in
-    let made = c .before .before .before .made in
-    entry-ready _ _ _ _ (start .pre .1) _ (start .pre .0)
-    _ _ _ _ (answer-length .ensures) (put-header .ensures) (made .ensures) (c .before .before .record-length .ensures) _ _ refl refl
-
-same-length : tie.Need-same-length
-same-length c = search needs
+    let put-header2 = c .before .before .before .before .before .before .put-header2 in
+    let record-length = c .before .before .before .record-length in
+    entry-ready _ _ _ _ (start .pre .1) _ (start .pre .0) _ (is-ignored .ensures) (if1 .left)
+    _ _ _ (answer-length .ensures) (put-header2 .ensures) (record-length .ensures) _ _ refl refl
 
 same-length-2 : tie.Need-same-length-2
 same-length-2 c = search needs
 
-returns : tie.Need-returns
-returns c =
+same-length-3 : tie.Need-same-length-3
+same-length-3 c = search needs
+
+returns-2 : tie.Need-returns-2
+returns-2 c =
     let start =
     c .before .before .before .before .before .before .before .before .before .before .before .before
-    .before .before .before .before .before .before in
+    .before .before .before .before .before .before .before .before in
+    let is-ignored =
+    c .before .before .before .before .before .before .before .before .before .before .before .before
+    .before .before .before .before .is-ignored in
+    let if1 = c .before .before .before .before .before .before .before .before .before .before .before .before .before .before .before .if1 in
     let answer-length = c .before .before .before .before .before .before .before .before .before .before .before .before .before .before .answer-length in
-    let put-header = c .before .before .before .before .before .before .before .before .before .before .before .before .put-header in
-    let made = c .before .before .before .before .before .before .before .before .before .made in
-    let record-length = c .before .before .before .before .before .before .before .before .record-length in
+    let put-header2 = c .before .before .before .before .before .before .before .before .before .before .before .before .put-header2 in
+    let record-length = c .before .before .before .before .before .before .before .before .before .record-length in
     let carry-out = c .before .before .before .before .before .carry-out in
-    entry-written _ _ _ _ (start .pre .1) _ (start .pre .0)
-    _ _ _ _ (answer-length .ensures) (put-header .ensures) (made .ensures) (record-length .ensures) _ _ refl refl _ _ _ _ (carry-out .ensures)
+    entry-written _ _ _ _ (start .pre .1) _ (start .pre .0) _ (is-ignored .ensures) (if1 .left)
+    _ _ _ (answer-length .ensures) (put-header2 .ensures) (record-length .ensures) _ _ refl refl _ _ _ _ (carry-out .ensures)
 
 pub write-entry-spec : {M : Type 1} → statement M
 write-entry-spec =
     tie.close
     (tie.spec
-    answer-length-requires
-    cast-answer
+    is-ignored-requires
+    add-put-header
     put-header-requires
-    made-requires
+    same-length
+    returns
+    answer-length-requires
+    cast-response
+    put-header-requires-2
     record-length-requires
     add-from
     sub-carry-out
     part-carry-out-start
     part-carry-out-end
     carry-out-requires
-    same-length
     same-length-2
-    returns)
+    same-length-3
+    returns-2)

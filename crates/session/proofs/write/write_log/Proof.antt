@@ -2,21 +2,21 @@
 use mathlib.Core.Path.{refl}
 use native.Mathlib.Omega.{arith}
 use borrow.Author.Needs.{needs}
-use Rattle.session.proofs.SessionWriteLaws.{session-long, records-ready, log-written}
+use Rattle.session.proofs.SessionWriteLaws.{session-long, records-ready, entries-room, log-written}
 use Rattle.session.proofs.write.write_log.Statement.{statement}
 use Rattle.session.proofs.write.write_log.Tie as tie
 
 sub-get4 : tie.Need-sub-get4
-sub-get4 c = let l = session-long _ _ _ (c .before .before .pre) in omega arith
+sub-get4 c = let l = session-long _ _ (c .before .before .pre) in omega arith
 
 get4-requires : tie.Need-get4-requires
-get4-requires c κs = let l = session-long _ _ _ (c .before .before .pre) in omega arith
+get4-requires c κs = let l = session-long _ _ (c .before .before .pre) in omega arith
 
 sub-get2 : tie.Need-sub-get2
-sub-get2 c = let l = session-long _ _ _ (c .before .before .before .pre) in omega arith
+sub-get2 c = let l = session-long _ _ (c .before .before .before .pre) in omega arith
 
 get2-requires : tie.Need-get2-requires
-get2-requires c κs = let l = session-long _ _ _ (c .before .before .before .pre) in omega arith
+get2-requires c κs = let l = session-long _ _ (c .before .before .before .pre) in omega arith
 
 slice-aggregate-copy : tie.Need-slice-aggregate-copy
 slice-aggregate-copy c = search needs
@@ -24,7 +24,7 @@ slice-aggregate-copy c = search needs
 copy-requires : tie.Need-copy-requires
 copy-requires c κs =
     let start = c .before .before .before .before .before in
-    let l = session-long _ _ _ (start .pre) in (omega arith, omega arith)
+    let l = session-long _ _ (start .pre) in (omega arith, omega arith)
 
 slice-aggregate-run-records : tie.Need-slice-aggregate-run-records
 slice-aggregate-run-records c = search needs
@@ -35,26 +35,62 @@ run-records-requires c κs =
     let get4 = c .before .before .before .before .before .before .get4 in
     let get2 = c .before .before .before .before .before .get2 in
     let copy = c .before .before .before .copy in
-    records-ready _ _ _ (start .pre) _ _ _ _ refl (copy .ensures) (get4 .ensures .0) (get2 .ensures .0)
+    records-ready _ _ (start .pre) _ _ _ _ refl (copy .ensures) (get4 .ensures .0) (get2 .ensures .0)
 
 slice-aggregate-copy-2 : tie.Need-slice-aggregate-copy-2
 slice-aggregate-copy-2 c = search needs
 
 copy-requires-2 : tie.Need-copy-requires-2
-copy-requires-2 c κs = search needs
+copy-requires-2 c κs =
+    let start = c .before .before .before .before .before .before .before .before .before .before .before .before .before .before .before in
+    let get4 = c .before .before .before .before .before .before .before .before .before .before .before .before .get4 in
+    let get2 = c .before .before .before .before .before .before .before .before .before .before .before .get2 in
+    let copy = c .before .before .before .before .before .before .before .before .before .copy in
+    let run-records = c .before .before .before .before .before .run-records in
+    let e = entries-room _ _ (start .pre) _ _ _ _ refl (copy .ensures) (get4 .ensures .0) (get2 .ensures .0) _ _ _ (run-records .ensures) in search needs
 
 add-put-trailer : tie.Need-add-put-trailer
-add-put-trailer c = search needs
+add-put-trailer c =
+    let start =
+    c .before .before .before .before .before .before .before .before .before .before .before .before
+    .before .before .before .before .before .before .before in
+    let get4 = c .before .before .before .before .before .before .before .before .before .before .before .before .before .before .before .before .get4 in
+    let get2 = c .before .before .before .before .before .before .before .before .before .before .before .before .before .before .before .get2 in
+    let copy = c .before .before .before .before .before .before .before .before .before .before .before .before .before .copy in
+    let run-records = c .before .before .before .before .before .before .before .before .before .run-records in
+    let e = entries-room _ _ (start .pre) _ _ _ _ refl (copy .ensures) (get4 .ensures .0) (get2 .ensures .0) _ _ _ (run-records .ensures) in omega arith
 
 put-trailer-requires : tie.Need-put-trailer-requires
-put-trailer-requires c κs = search needs
+put-trailer-requires c κs =
+    let start =
+    c .before .before .before .before .before .before .before .before .before .before .before .before
+    .before .before .before .before .before .before .before in
+    let get4 = c .before .before .before .before .before .before .before .before .before .before .before .before .before .before .before .before .get4 in
+    let get2 = c .before .before .before .before .before .before .before .before .before .before .before .before .before .before .before .get2 in
+    let copy = c .before .before .before .before .before .before .before .before .before .before .before .before .before .copy in
+    let run-records = c .before .before .before .before .before .before .before .before .before .run-records in
+    let e = entries-room _ _ (start .pre) _ _ _ _ refl (copy .ensures) (get4 .ensures .0) (get2 .ensures .0) _ _ _ (run-records .ensures) in omega arith
+
+add-result : tie.Need-add-result
+add-result c =
+    let start =
+    c .before .before .before .before .before .before .before .before .before .before .before .before
+    .before .before .before .before .before .before .before .before .before .before in
+    let get4 =
+    c .before .before .before .before .before .before .before .before .before .before .before .before
+    .before .before .before .before .before .before .before .get4 in
+    let get2 =
+    c .before .before .before .before .before .before .before .before .before .before .before .before
+    .before .before .before .before .before .before .get2 in
+    let copy = c .before .before .before .before .before .before .before .before .before .before .before .before .before .before .before .before .copy in
+    let run-records = c .before .before .before .before .before .before .before .before .before .before .before .before .run-records in
+    let e = entries-room _ _ (start .pre) _ _ _ _ refl (copy .ensures) (get4 .ensures .0) (get2 .ensures .0) _ _ _ (run-records .ensures) in omega arith
 
 same-length : tie.Need-same-length
 same-length c = search needs
 
 returns : tie.Need-returns
 returns c =
-    let put-trailer = c .before .before .put-trailer in
     let start =
     c .before .before .before .before .before .before .before .before .before .before .before .before
     .before .before .before .before .before .before .before .before .before .before in
@@ -67,8 +103,8 @@ returns c =
     let copy = c .before .before .before .before .before .before .before .before .before .before .before .before .before .before .before .before .copy in
     let run-records = c .before .before .before .before .before .before .before .before .before .before .before .before .run-records in
     let copy2 = c .before .before .before .before .before .before .copy2 in
-    log-written _ _ _ (start .pre) _ _ _ _ refl (copy .ensures) (get4 .ensures .0) (get2 .ensures .0) _ _ _ _ (run-records .ensures) (copy2 .ensures)
-    (put-trailer .ensures)
+    log-written _ _ (start .pre) _ _ _ _ refl (copy .ensures) (get4 .ensures .0) (get2 .ensures .0) _ _ _ (run-records .ensures) _ _ (copy2 .ensures)
+    (c .before .before .put-trailer .ensures)
 
 pub write-log-spec : {M : Type 1} → statement M
 write-log-spec =
@@ -86,5 +122,6 @@ write-log-spec =
     copy-requires-2
     add-put-trailer
     put-trailer-requires
+    add-result
     same-length
     returns)

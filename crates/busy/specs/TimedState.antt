@@ -1,0 +1,7 @@
+-- The state of the code as that of the model.
+use Rattle.model.specs.Busy as model
+use Rattle.access.specs.State.{volatileOf}
+use Rattle.busy.specs.declared.State.{State}
+
+abbrev pub stateOf : State → model.State
+stateOf s = record { volatile = volatileOf (s .volatile); busy = s .busy }
