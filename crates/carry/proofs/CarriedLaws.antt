@@ -15,26 +15,19 @@ use Rattle.model.specs.Instruction.{issue, wait, poll}
 use Rattle.model.specs.At88sc1608.{at88sc1608, counterAt}
 use Rattle.model.specs.Busy.{State, timed, writeTime, makesBusy}
 use Rattle.model.specs.Busy as any
-use Rattle.model.specs.Call.{reporting}
 use Rattle.model.specs.Single.{apply}
 use Rattle.laws.specs.Effects.{answerLength}
 use Rattle.carry.specs.Carried.{Carried, Issued}
 
--- what a command leaves, from what it reported and whether it made the card busy
+-- what a command leaves, from the state and the tries that were handed on, and whether it made the card busy
 module _ (c : List ℕ) (v : Volatile) (k : Command) (c′ : List ℕ) (v′ : Volatile) (s′ : State) (n tries : ℕ) (b : Bool)
     (times : s′ ≡ timed v′ (cond b writeTime 0)) (hands : tries ≡ n) (busy : b ≡ makesBusy at88sc1608 c v k) where
-  pub without-tries : (t : Volatile) → record { state = v′; answer = []; tries = n } ≡ reporting t [] → 0 ≡ apply c v k .report .tries
-      → c′ ≡ apply c v k .card → t ≡ apply c v k .report .state → Issued c v k c′ s′ tries
-  without-tries t q z card state =
-      record {
-        card = card;
-        state = times ∙ (λ i. timed (((λ j. q j .state) ∙ state) i) (cond (busy i) writeTime 0));
-        handed = hands ∙ (λ i. q i .tries) ∙ z;
-      }
+  pub without-tries : n ≡ apply c v k .report .tries → c′ ≡ apply c v k .card → v′ ≡ apply c v k .report .state → Issued c v k c′ s′ tries
+  without-tries used card state =
+      record { card = card; state = times ∙ (λ i. timed (state i) (cond (busy i) writeTime 0)); handed = hands ∙ used }
 
   pub with-tries : record { state = v′; answer = []; tries = n } ≡ apply c v k .report → c′ ≡ apply c v k .card → Issued c v k c′ s′ tries
-  with-tries q card =
-      record { card = card; state = times ∙ (λ i. timed (q i .state) (cond (busy i) writeTime 0)); handed = hands ∙ (λ i. q i .tries) }
+  with-tries q card = without-tries (λ i. q i .tries) card (λ i. q i .state)
 
 module _ (c : List ℕ) (s : State) (space : List ℕ) where
   pub answered : (k : Command) (c′ : List ℕ) (s′ : State) (tries : ℕ) (space′ : List ℕ) → Issued c (s .volatile) k c′ s′ tries

@@ -60,7 +60,15 @@ fn left(report: Report, busy: bool) -> Done
     }
 }
 
-// One that is no command: it uses no counter.
+// A command that uses no counter.
+fn settled(volatile: Volatile, busy: bool) -> Done
+    ensures state { λ r. ⌜ stateOf (r .state) ≡ model.timed (volatileOf volatile) (cond busy writeTime 0) ⌝ }
+    ensures tries { λ r. ⌜ r .tries ≡ 0 ⌝ }
+{
+    left(reporting(volatile), busy)
+}
+
+// What is no command.
 fn quiet(state: State) -> Done
     ensures state { λ r. ⌜ stateOf (r .state) ≡ stateOf state ⌝ }
     ensures tries { λ r. ⌜ r .tries ≡ 0 ⌝ }
@@ -84,7 +92,7 @@ fn blow_fuse(card: &mut [u8], state: Volatile) -> Done
     let active = state.active;
     let busy = both(is_active(active, 7), card[FUSES] != 0);
     write_fuses(card, state);
-    left(reporting(state), busy)
+    settled(state, busy)
 }
 
 // Verify password: busy where its counter is not used up.
@@ -134,28 +142,28 @@ pub fn carry_out(
 {
     let kind = head.kind;
     match kind {
-        1 => left(reporting(power_up()), false),
-        2 => left(reporting(answer_to_reset(card, state, response)), false),
-        3 => left(reporting(selecting(state, Zone(head.a))), false),
+        1 => settled(power_up(), false),
+        2 => settled(answer_to_reset(card, state, response), false),
+        3 => settled(selecting(state, Zone(head.a)), false),
         4 => {
             read_zone(card, state, head.a, read_count(head.n) as usize, response);
-            left(reporting(state), false)
+            settled(state, false)
         }
         5 => {
             write_zone(card, state, head.a, &record[3..end]);
-            left(reporting(state), true)
+            settled(state, true)
         }
         6 => {
             read_configuration(card, state, head.a, head.n as usize, response);
-            left(reporting(state), false)
+            settled(state, false)
         }
         7 => {
             write_configuration(card, state, head.a, &record[3..end]);
-            left(reporting(state), true)
+            settled(state, true)
         }
         8 => {
             read_fuses(card, response);
-            left(reporting(state), false)
+            settled(state, false)
         }
         9 => blow_fuse(card, state),
         10 => present(card, state, head.a, &record[2..end]),

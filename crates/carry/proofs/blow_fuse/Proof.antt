@@ -18,11 +18,8 @@ both-requires c κs = search needs
 write-fuses-requires : tie.Need-write-fuses-requires
 write-fuses-requires c κs = search needs
 
-reporting-requires : tie.Need-reporting-requires
-reporting-requires c κs = search needs
-
-left-requires : tie.Need-left-requires
-left-requires c κs = search needs
+settled-requires : tie.Need-settled-requires
+settled-requires c κs = search needs
 
 same-length : tie.Need-same-length
 same-length c = search needs
@@ -30,13 +27,12 @@ same-length c = search needs
 returns : tie.Need-returns
 unfolding any.apply
 returns c =
-    let start = c .before .before .before .before .before .before .before .before .before .before in
-    let is-active = c .before .before .before .before .before .before .before .before .is-active in
-    let both = c .before .before .before .before .before .before .both in
-    let write-fuses = c .before .before .before .before .write-fuses in
-    without-tries _ _ _ _ _ _ _ _ _ (c .left .ensures .0) (c .left .ensures .1)
-    (fuse-left (start .args .card .now) (volatileOf (start .args .state)) _ _ (is-active .ensures) (both .ensures)) _ (c .before .reporting .ensures)
-    refl (write-fuses .ensures) refl
+    let start = c .before .before .before .before .before .before .before .before .before in
+    let is-active = c .before .before .before .before .before .before .before .is-active in
+    let both = c .before .before .before .before .before .both in
+    let write-fuses = c .before .before .before .write-fuses in
+    without-tries _ _ _ _ _ _ _ _ _ (c .settled .ensures .0) (c .settled .ensures .1)
+    (fuse-left (start .args .card .now) (volatileOf (start .args .state)) _ _ (is-active .ensures) (both .ensures)) refl (write-fuses .ensures) refl
 
 pub blow-fuse-spec : {M : Type 1} → statement M
 blow-fuse-spec =
@@ -46,7 +42,6 @@ blow-fuse-spec =
     slice-read-both
     both-requires
     write-fuses-requires
-    reporting-requires
-    left-requires
+    settled-requires
     same-length
     returns)

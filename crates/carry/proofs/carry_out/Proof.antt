@@ -14,11 +14,8 @@ use Rattle.carry.proofs.carry_out.Tie as tie
 power-up-requires : tie.Need-power-up-requires
 power-up-requires c κs = search needs
 
-reporting-requires : tie.Need-reporting-requires
-reporting-requires c κs = search needs
-
-left-requires : tie.Need-left-requires
-left-requires c κs = search needs
+settled-requires : tie.Need-settled-requires
+settled-requires c κs = search needs
 
 answer-to-reset-requires : tie.Need-answer-to-reset-requires
 unfolding recordOf
@@ -26,20 +23,14 @@ answer-to-reset-requires c κs =
     let start = c .before .before .before .before .before .before in
     (search needs, rw (c .before .before .match .keys2) at (start .pre .room))
 
-reporting-requires-2 : tie.Need-reporting-requires-2
-reporting-requires-2 c κs = search needs
-
-left-requires-2 : tie.Need-left-requires-2
-left-requires-2 c κs = search needs
+settled-requires-2 : tie.Need-settled-requires-2
+settled-requires-2 c κs = search needs
 
 selecting-requires : tie.Need-selecting-requires
 selecting-requires c κs = search needs
 
-reporting-requires-3 : tie.Need-reporting-requires-3
-reporting-requires-3 c κs = search needs
-
-left-requires-3 : tie.Need-left-requires-3
-left-requires-3 c κs = search needs
+settled-requires-3 : tie.Need-settled-requires-3
+settled-requires-3 c κs = search needs
 
 read-count-requires : tie.Need-read-count-requires
 read-count-requires c κs = search needs
@@ -54,11 +45,8 @@ read-zone-requires c κs =
     let the-match = c .before .before .before .match in
     (search needs, search needs, rw (c .before .read-count .ensures) (rw (the-match .keys4) at (start .pre .room)))
 
-reporting-requires-4 : tie.Need-reporting-requires-4
-reporting-requires-4 c κs = search needs
-
-left-requires-4 : tie.Need-left-requires-4
-left-requires-4 c κs = search needs
+settled-requires-4 : tie.Need-settled-requires-4
+settled-requires-4 c κs = search needs
 
 sub-write-zone : tie.Need-sub-write-zone
 unfolding recordOf
@@ -80,11 +68,8 @@ part-write-zone-end c = search needs
 write-zone-requires : tie.Need-write-zone-requires
 write-zone-requires c κs = search needs
 
-reporting-requires-5 : tie.Need-reporting-requires-5
-reporting-requires-5 c κs = search needs
-
-left-requires-5 : tie.Need-left-requires-5
-left-requires-5 c κs = search needs
+settled-requires-5 : tie.Need-settled-requires-5
+settled-requires-5 c κs = search needs
 
 cast-read-configuration : tie.Need-cast-read-configuration
 cast-read-configuration c = search needs
@@ -96,11 +81,8 @@ read-configuration-requires c κs =
     let the-match = c .before .before .before .match in
     (search needs, (rw (the-match .keys6) at (start .pre .ranged)) .1, rw (the-match .keys6) at (start .pre .room))
 
-reporting-requires-6 : tie.Need-reporting-requires-6
-reporting-requires-6 c κs = search needs
-
-left-requires-6 : tie.Need-left-requires-6
-left-requires-6 c κs = search needs
+settled-requires-6 : tie.Need-settled-requires-6
+settled-requires-6 c κs = search needs
 
 sub-write-configuration : tie.Need-sub-write-configuration
 unfolding recordOf
@@ -125,11 +107,8 @@ write-configuration-requires c κs =
     let start = c .before .before .before .before .before .before in
     (search needs, (rw (c .before .before .match .keys7) at (start .pre .ranged)) .0)
 
-reporting-requires-7 : tie.Need-reporting-requires-7
-reporting-requires-7 c κs = search needs
-
-left-requires-7 : tie.Need-left-requires-7
-left-requires-7 c κs = search needs
+settled-requires-7 : tie.Need-settled-requires-7
+settled-requires-7 c κs = search needs
 
 read-fuses-requires : tie.Need-read-fuses-requires
 unfolding recordOf
@@ -137,11 +116,8 @@ read-fuses-requires c κs =
     let start = c .before .before .before .before .before .before in
     (search needs, rw (c .before .before .match .keys8) at (start .pre .room))
 
-reporting-requires-8 : tie.Need-reporting-requires-8
-reporting-requires-8 c κs = search needs
-
-left-requires-8 : tie.Need-left-requires-8
-left-requires-8 c κs = search needs
+settled-requires-8 : tie.Need-settled-requires-8
+settled-requires-8 c κs = search needs
 
 blow-fuse-requires : tie.Need-blow-fuse-requires
 blow-fuse-requires c κs = search needs
@@ -225,11 +201,9 @@ quiet-requires-2 c κs = search needs
 returns : tie.Need-returns
 unfolding recordOf any.apply
 returns c =
-    let the-match = c .before .before .before .match in
-    rw (the-match .keys1)
+    rw (c .before .before .match .keys1)
     (answered _ _ _ _ _ _ _ _
-    (without-tries _ _ _ _ _ _ _ _ _ (c .left .ensures .0) (c .left .ensures .1) refl _ (c .before .reporting .ensures) refl refl
-    (c .before .before .power-up .ensures))
+    (without-tries _ _ _ _ _ _ _ _ _ (c .settled .ensures .0) (c .settled .ensures .1) refl refl refl (c .before .power-up .ensures))
     refl)
 
 same-length : tie.Need-same-length
@@ -241,22 +215,19 @@ same-length-2 c = search needs
 returns-2 : tie.Need-returns-2
 unfolding recordOf any.apply
 returns-2 c =
-    let the-match = c .before .before .before .before .before .before .before .match in
-    let answer-to-reset = c .before .before .before .before .answer-to-reset in
+    let the-match = c .before .before .before .before .before .before .match in
+    let answer-to-reset = c .before .before .before .answer-to-reset in
     rw (the-match .keys2)
     (answered _ _ _ _ _ _ _ _
-    (without-tries _ _ _ _ _ _ _ _ _ (c .left2 .ensures .0) (c .left2 .ensures .1) refl _ (c .before .reporting2 .ensures) refl refl
-    (answer-to-reset .ensures .0))
+    (without-tries _ _ _ _ _ _ _ _ _ (c .settled2 .ensures .0) (c .settled2 .ensures .1) refl refl refl (answer-to-reset .ensures .0))
     (answer-to-reset .ensures .1))
 
 returns-3 : tie.Need-returns-3
 unfolding recordOf any.apply
 returns-3 c =
-    let the-match = c .before .before .before .match in
-    rw (the-match .keys3)
+    rw (c .before .before .match .keys3)
     (answered _ _ _ _ _ _ _ _
-    (without-tries _ _ _ _ _ _ _ _ _ (c .left3 .ensures .0) (c .left3 .ensures .1) refl _ (c .before .reporting3 .ensures) refl refl
-    (c .before .before .selecting .ensures))
+    (without-tries _ _ _ _ _ _ _ _ _ (c .settled3 .ensures .0) (c .settled3 .ensures .1) refl refl refl (c .before .selecting .ensures))
     refl)
 
 same-length-3 : tie.Need-same-length-3
@@ -268,12 +239,12 @@ same-length-4 c = search needs
 returns-4 : tie.Need-returns-4
 unfolding recordOf any.apply
 returns-4 c =
-    let the-match = c .before .before .before .before .before .before .before .before .match in
-    let read-count = c .before .before .before .before .before .before .read-count in
-    let read-zone = c .before .before .before .before .read-zone in
+    let the-match = c .before .before .before .before .before .before .before .match in
+    let read-count = c .before .before .before .before .before .read-count in
+    let read-zone = c .before .before .before .read-zone in
     rw (the-match .keys4, ← (read-count .ensures))
     (answered _ _ _ _ _ _ _ _
-    (without-tries _ _ _ _ _ _ _ _ _ (c .left4 .ensures .0) (c .left4 .ensures .1) refl _ (c .before .reporting4 .ensures) refl refl refl)
+    (without-tries _ _ _ _ _ _ _ _ _ (c .settled4 .ensures .0) (c .settled4 .ensures .1) refl refl refl refl)
     (read-zone .ensures))
 
 same-length-5 : tie.Need-same-length-5
@@ -282,11 +253,11 @@ same-length-5 c = search needs
 returns-5 : tie.Need-returns-5
 unfolding recordOf any.apply
 returns-5 c =
-    let the-match = c .before .before .before .before .before .before .before .match in
-    let write-zone = c .before .before .before .before .write-zone in
+    let the-match = c .before .before .before .before .before .before .match in
+    let write-zone = c .before .before .before .write-zone in
     rw (the-match .keys5)
     (answered _ _ _ _ _ _ _ _
-    (without-tries _ _ _ _ _ _ _ _ _ (c .left5 .ensures .0) (c .left5 .ensures .1) refl _ (c .before .reporting5 .ensures) refl (write-zone .ensures) refl)
+    (without-tries _ _ _ _ _ _ _ _ _ (c .settled5 .ensures .0) (c .settled5 .ensures .1) refl refl (write-zone .ensures) refl)
     refl)
 
 same-length-6 : tie.Need-same-length-6
@@ -298,11 +269,11 @@ same-length-7 c = search needs
 returns-6 : tie.Need-returns-6
 unfolding recordOf any.apply
 returns-6 c =
-    let the-match = c .before .before .before .before .before .before .before .before .match in
-    let read-configuration = c .before .before .before .before .read-configuration in
+    let the-match = c .before .before .before .before .before .before .before .match in
+    let read-configuration = c .before .before .before .read-configuration in
     rw (the-match .keys6)
     (answered _ _ _ _ _ _ _ _
-    (without-tries _ _ _ _ _ _ _ _ _ (c .left6 .ensures .0) (c .left6 .ensures .1) refl _ (c .before .reporting6 .ensures) refl refl refl)
+    (without-tries _ _ _ _ _ _ _ _ _ (c .settled6 .ensures .0) (c .settled6 .ensures .1) refl refl refl refl)
     (read-configuration .ensures))
 
 same-length-8 : tie.Need-same-length-8
@@ -311,12 +282,11 @@ same-length-8 c = search needs
 returns-7 : tie.Need-returns-7
 unfolding recordOf any.apply
 returns-7 c =
-    let the-match = c .before .before .before .before .before .before .before .match in
-    let write-configuration = c .before .before .before .before .write-configuration in
+    let the-match = c .before .before .before .before .before .before .match in
+    let write-configuration = c .before .before .before .write-configuration in
     rw (the-match .keys7)
     (answered _ _ _ _ _ _ _ _
-    (without-tries _ _ _ _ _ _ _ _ _ (c .left7 .ensures .0) (c .left7 .ensures .1) refl _ (c .before .reporting7 .ensures) refl
-    (write-configuration .ensures) refl)
+    (without-tries _ _ _ _ _ _ _ _ _ (c .settled7 .ensures .0) (c .settled7 .ensures .1) refl refl (write-configuration .ensures) refl)
     refl)
 
 same-length-9 : tie.Need-same-length-9
@@ -328,11 +298,11 @@ same-length-10 c = search needs
 returns-8 : tie.Need-returns-8
 unfolding recordOf any.apply
 returns-8 c =
-    let the-match = c .before .before .before .before .before .before .before .match in
-    let read-fuses = c .before .before .before .before .read-fuses in
+    let the-match = c .before .before .before .before .before .before .match in
+    let read-fuses = c .before .before .before .read-fuses in
     rw (the-match .keys8)
     (answered _ _ _ _ _ _ _ _
-    (without-tries _ _ _ _ _ _ _ _ _ (c .left8 .ensures .0) (c .left8 .ensures .1) refl _ (c .before .reporting8 .ensures) refl refl refl)
+    (without-tries _ _ _ _ _ _ _ _ _ (c .settled8 .ensures .0) (c .settled8 .ensures .1) refl refl refl refl)
     (read-fuses .ensures))
 
 same-length-11 : tie.Need-same-length-11
@@ -385,7 +355,8 @@ returns-14 : tie.Need-returns-14
 unfolding recordOf
 returns-14 c =
     let rest = c .before .before .before .match .rest .0 .0 .0 .0 .0 .0 .0 in
-    let e : (let head = c .before .before .before .before .before .before .before .args .head in recordOf (head .kind) (head .a) (head .n)) ≡ kind.Poll = search tests in
+    let e : (let head = c .before .before .before .before .before .before .before .args .head in recordOf (head .kind) (head .a) (head .n)) ≡
+    kind.Poll = search tests in
     let start = c .before .before .before .before .before .before .before in
     rw e (polled _ _ _ _ _ _ _ (c .quiet2 .ensures .0) (c .quiet2 .ensures .1) (c .before .timed2 .ensures) (rw e at (start .pre .room))
     (c .before .before .busy-byte .ensures))
@@ -395,38 +366,30 @@ carry-out-spec =
     tie.close
     (tie.spec
     power-up-requires
-    reporting-requires
-    left-requires
+    settled-requires
     answer-to-reset-requires
-    reporting-requires-2
-    left-requires-2
+    settled-requires-2
     selecting-requires
-    reporting-requires-3
-    left-requires-3
+    settled-requires-3
     read-count-requires
     cast-read-zone
     read-zone-requires
-    reporting-requires-4
-    left-requires-4
+    settled-requires-4
     sub-write-zone
     part-write-zone-start
     part-write-zone-end
     write-zone-requires
-    reporting-requires-5
-    left-requires-5
+    settled-requires-5
     cast-read-configuration
     read-configuration-requires
-    reporting-requires-6
-    left-requires-6
+    settled-requires-6
     sub-write-configuration
     part-write-configuration-start
     part-write-configuration-end
     write-configuration-requires
-    reporting-requires-7
-    left-requires-7
+    settled-requires-7
     read-fuses-requires
-    reporting-requires-8
-    left-requires-8
+    settled-requires-8
     blow-fuse-requires
     sub-present
     part-present-start
