@@ -33,13 +33,13 @@ edge below-least 2184 1 10 'refused 1'
 edge least 2185 2 49 'tries 8 8 8 8 8 8 8 8 8 8 8 8 8 8 8 8 8' 'fuses 07'
 # 4,096 records of all kinds, a log of 65,536 bytes; then the same with a byte, a record or a log byte more. Then as many, most met
 # while busy: their log is shorter, but its space must hold every full response.
-edge greatest 65536 4098 184896 'tries 8 8 8 8 8 8 8 8 8 8 8 8 8 8 8 8 7' 'fuses 00'
+edge greatest 65536 4098 183051 'tries 8 8 8 8 8 8 8 8 8 8 8 8 8 8 8 8 7' 'fuses 00'
 edge byte-more 65537 1 10 'refused 1'
 edge record-more 65536 1 10 'refused 4'
 edge log-byte-more 65536 1 11 'refused 10'
-edge busy-greatest 65536 4098 168453 'tries 8 8 8 8 8 8 8 8 8 8 8 8 8 8 8 8 8' 'fuses 07'
+edge busy-greatest 65536 4098 165540 'tries 8 8 8 8 8 8 8 8 8 8 8 8 8 8 8 8 8' 'fuses 07'
 edge busy-log-byte-more 65536 1 11 'refused 10'
-# No listing is longer: a log byte gives most text, three bytes, within a response, so 245 records that fill the log by zone reads
-# give the most. A test of the second implementation tries every number of records.
-edge longest-listing 2920 247 189502 'tries 8 8 8 8 8 8 8 8 8 8 8 8 8 8 8 8 8' 'fuses 07'
+# No listing is longer: a log byte gives most text, three bytes, within a response, and a zone byte gives none, so 484 records that
+# fill the log by configuration reads give the most. A test of the second implementation tries every number of records and zone reads.
+edge longest-listing 3637 486 189024 'tries 8 8 8 8 8 8 8 8 8 8 8 8 8 8 8 8 8' 'fuses 07'
 echo "edges: the program and the second implementation agree at the edges and beyond them"

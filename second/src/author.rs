@@ -1,4 +1,4 @@
-//! Puts sessions together: a card, free text, records and the trailer.
+//! Puts sessions together: a card, free text, records and the trailer; and logs, entry by entry.
 
 use crate::card;
 use crate::layout::{AAC, CARD, CONFIGURATION, FUSES, REGISTERS, TRAILER, ZONE, ZONES};
@@ -44,6 +44,18 @@ pub fn trailer(start: usize, count: u16) -> [u8; TRAILER] {
     bytes[4..6].copy_from_slice(&count.to_le_bytes());
     bytes[6..].copy_from_slice(&session::MARK);
     bytes
+}
+
+/// An entry of a log, with or without a byte between the length and the response.
+pub fn entry(kind: u8, zone: Option<u8>, response: &[u8]) -> Vec<u8> {
+    let length = (response.len() as u16).to_le_bytes();
+    [&[kind][..], &length, zone.as_slice(), response].concat()
+}
+
+/// A log with these bytes for entries and a fresh card, and a trailer with this count and mark.
+pub fn log_of(entries: &[u8], count: u16, mark: [u8; 2]) -> Vec<u8> {
+    let card_at = (entries.len() as u32).to_le_bytes();
+    [entries, &fresh_card(4), &card_at, &count.to_le_bytes(), &mark].concat()
 }
 
 impl Author {

@@ -2,7 +2,8 @@
 
 use crate::author::Author;
 use crate::layout::{
-    ENTRY_HEADER, LOG_SPACE, LONGEST_SESSION, MOST_RECORDS, SHORTEST_LOG, ZONE, ZONES,
+    CONFIGURATION, ENTRY_HEADER, FUSES, LOG_SPACE, LONGEST_SESSION, MOST_RECORDS, SHORTEST_LOG,
+    ZONE, ZONES,
 };
 use crate::session;
 
@@ -78,16 +79,19 @@ fn most_records(in_turn: fn(Author, u16) -> Author, space: usize) -> Author {
 
 /// The longest text that the program can be asked for.
 ///
-/// A response byte takes one byte of the log and gives three of the text. An entry's header takes
-/// three of the log and gives at most eight of the text: four digits, a space, the kind, the line's
-/// end. The last two lines have one length in every listing. What a busy card ignores takes its
-/// space and gives a header alone. So the text is longest when the log is full and has as few
-/// entries as can fill it: all but one read a whole zone.
+/// A response byte takes one byte of the log and gives three of the text. What an entry has before
+/// its response takes three of the log, or four with a zone, and gives at most eight of the text:
+/// four digits, a space, the kind, the line's end. The last two lines have one length in every
+/// listing. What a busy card ignores takes its space and gives no response. So the text is longest
+/// when the log is full, with few entries and few zones among them. Two reads of the whole
+/// configuration give more for their space than one of a whole zone.
 fn longest_listing() -> Author {
     let entries = LOG_SPACE - SHORTEST_LOG;
-    let whole = ENTRY_HEADER + ZONE;
-    let reads = (0..entries / whole).fold(marked(), |author, k| author.read(k as u8, 0));
-    reads.read(0xFF, (entries % whole - ENTRY_HEADER) as u8)
+    let configuration = FUSES - CONFIGURATION;
+    let whole = ENTRY_HEADER + configuration;
+    let last = entries % whole - ENTRY_HEADER;
+    let reads = marked().times(entries / whole, |a| a.read_configuration(0, configuration as u8));
+    reads.read_configuration(0, last as u8)
 }
 
 /// The session with as much free text as makes it this long.

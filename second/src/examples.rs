@@ -139,6 +139,26 @@ fn busy() -> Author {
         .read(0x00, 5)
 }
 
+fn zones() -> Author {
+    Author::new(7)
+        .text(b"Each zone holds its number. The log names it too: 0, 5, 5, 5, 5, 2, 2, 0.\n")
+        .each_zone(|a, zone| a.put_zone(zone.into(), 0, &[zone; 16]))
+        .read(0x00, 1)
+        .select(5)
+        .read(0x00, 1)
+        .write(0x01, b"new")
+        .select(2)
+        .read(0x00, 1)
+        .ready()
+        .read(0x00, 4)
+        .select(2)
+        .read(0x00, 4)
+        .reset()
+        .read(0x00, 1)
+        .power()
+        .read(0x00, 1)
+}
+
 fn refused() -> Author {
     Author::new(7)
         .text(b"The second record writes 17 bytes, so the whole session is refused with 7.\n")
@@ -181,6 +201,7 @@ pub fn all() -> Vec<(&'static str, Vec<u8>)> {
         ("closed", closed()),
         ("tries", tries()),
         ("busy", busy()),
+        ("zones", zones()),
         ("refused", refused()),
         ("wrap", wrap()),
     ]

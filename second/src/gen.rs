@@ -4,12 +4,13 @@
 //! and locked doors are opened often enough to reach deep states. For stretches of records the host
 //! has the patience to wait for a busy card, or has little of it.
 
-use crate::author::{counter, trailer};
+use crate::author::{counter, entry, trailer};
 use crate::command::command;
 use crate::layout::{
     AAC, CARD, CONFIGURATION, FUSES, LONGEST_SESSION, MOST_RECORDS, REGISTERS, SHORTEST_LOG,
     SHORTEST_SESSION, STATE, TRAILER, ZONE, ZONES,
 };
+use crate::log::{self, Entry, Layout, Log};
 
 /// Splitmix64.
 pub struct Rng(u64);
@@ -292,6 +293,15 @@ fn of_first_twelve(rng: &mut Rng, card: &[u8], state: &[u8]) -> Vec<u8> {
     of_kind(rng, card, state, kind)
 }
 
+/// A sound record, most often one that selects, reads or writes a zone, with half the patience.
+fn zone_record(rng: &mut Rng, card: &[u8], state: &[u8], patience: usize) -> Vec<u8> {
+    if state[4] > 0 && rng.chance(patience / 2) {
+        return pastime(rng, state[4]);
+    }
+    let kind = rng.pick(&[1, 2, 3, 3, 3, 3, 4, 4, 4, 4, 5, 5, 5, 6, 7]);
+    of_kind(rng, card, state, kind)
+}
+
 /// A record with something wrong: its kind, a field, its length.
 pub fn damaged_record(rng: &mut Rng, record: &[u8]) -> Vec<u8> {
     let mut record = record.to_vec();
@@ -329,16 +339,29 @@ pub fn damaged_record(rng: &mut Rng, record: &[u8]) -> Vec<u8> {
 
 /// A sound session with about this many records, sent with changing patience.
 pub fn session(rng: &mut Rng, records: usize) -> Vec<u8> {
+    with_patience(rng, records, record)
+}
+
+/// The same, most of its records about zones.
+pub fn zone_session(rng: &mut Rng, records: usize) -> Vec<u8> {
+    with_patience(rng, records, zone_record)
+}
+
+fn with_patience(
+    rng: &mut Rng,
+    records: usize,
+    next: fn(&mut Rng, &[u8], &[u8], usize) -> Vec<u8>,
+) -> Vec<u8> {
     let mut now = patience(rng);
     session_of(rng, records, |rng, card, state| {
         if rng.chance(3) {
             now = patience(rng);
         }
-        record(rng, card, state, now)
+        next(rng, card, state, now)
     })
 }
 
-/// The same with records that are chosen, one after the other, by `next`.
+/// A session with records that are chosen, one after the other, by `next`.
 pub fn session_of(
     rng: &mut Rng,
     records: usize,
@@ -422,11 +445,47 @@ fn damage(rng: &mut Rng, bytes: &mut Vec<u8>) {
     }
 }
 
+fn entries(log: &[u8]) -> Vec<Entry> {
+    let opened = Log::open(log).expect("the log is sound");
+    opened.entries().map(|entry| entry.expect("the entries are sound")).collect()
+}
+
+/// A sound log in the layout without zones.
+pub fn without_zones(log: &[u8]) -> Vec<u8> {
+    let entries = entries(log);
+    let plain = |e: &Entry| entry(e.kind, None, &log[e.response.clone()]);
+    let mut bytes = entries.iter().map(plain).collect::<Vec<_>>().concat();
+    let card_at = bytes.len();
+    bytes.extend_from_slice(&log[log.len() - SHORTEST_LOG..]);
+    let trailer = &mut bytes[card_at + CARD..];
+    log::write_trailer(trailer, card_at, entries.len() as u16, Layout::Plain);
+    bytes
+}
+
+/// A zone byte changed, dropped or put in, and the card's place told rightly.
+fn damage_zone(rng: &mut Rng, bytes: &mut Vec<u8>) {
+    let entries = entries(bytes);
+    if entries.is_empty() {
+        return;
+    }
+    let entry = &entries[rng.below(entries.len())];
+    let at = entry.response.start;
+    match rng.below(3) {
+        0 if entry.zone.is_some() => bytes[at - 1] = rng.byte(),
+        1 if entry.zone.is_some() => {
+            bytes.remove(at - 1);
+        }
+        _ => bytes.insert(at, rng.byte() & 7),
+    }
+    let (card_at, end) = (bytes.len() - SHORTEST_LOG, bytes.len() - TRAILER);
+    bytes[end..end + 4].copy_from_slice(&(card_at as u32).to_le_bytes());
+}
+
 /// A log with something wrong; now and then it is sound all the same.
 pub fn damaged_log(rng: &mut Rng, log: &[u8]) -> Vec<u8> {
     let mut bytes = log.to_vec();
     let card_at = bytes.len() - SHORTEST_LOG;
-    match rng.below(8) {
+    match rng.below(10) {
         0 => bytes.truncate(rng.below(bytes.len())),
         1 => bytes.extend(rng.bytes(1)),
         2 => bytes[card_at + FUSES] = rng.byte(),
@@ -439,10 +498,16 @@ pub fn damaged_log(rng: &mut Rng, log: &[u8]) -> Vec<u8> {
             let at = bytes.len() - 4;
             bytes[at] = bytes[at].wrapping_add(rng.pick(&[1, 255]));
         }
-        5 if card_at > 0 => {
+        5 => {
+            // The mark of the other layout.
+            let at = bytes.len() - 1;
+            bytes[at] ^= 0x4F ^ 0x50;
+        }
+        6 => damage_zone(rng, &mut bytes),
+        7 if card_at > 0 => {
             bytes.remove(rng.below(card_at));
         }
-        6 if card_at > 0 => bytes[rng.below(card_at)] ^= 0x80,
+        8 if card_at > 0 => bytes[rng.below(card_at)] ^= 0x80,
         _ if card_at > 0 => {
             let at = rng.below(card_at);
             bytes[at] = rng.byte();

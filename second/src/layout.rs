@@ -29,8 +29,14 @@ pub const MOST_RECORDS: u16 = 4096;
 pub const SHORTEST_SESSION: usize = CARD + TRAILER;
 pub const LONGEST_SESSION: usize = 65_536;
 
-/// Kind and response length before each response of a log.
+/// The kind and the response length, with which each entry of a log begins.
 pub const ENTRY_HEADER: usize = 3;
+
+/// The zone behind them, in the entries that name one.
+pub const ENTRY_ZONE: usize = 1;
+
+/// The entry of a read of a whole zone.
+pub const LONGEST_ENTRY: usize = ENTRY_HEADER + ENTRY_ZONE + ZONE;
 
 /// What a log has beside its entries.
 pub const SHORTEST_LOG: usize = CARD + TRAILER;

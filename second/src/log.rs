@@ -1,17 +1,63 @@
-//! The log: its layout, its check, and finding an answer in it.
+//! The log: its two layouts, its check, and finding an answer in it.
 
 use std::ops::Range;
 
 use crate::access::Stage;
-use crate::layout::{CARD, ENTRY_HEADER, FUSES, MOST_RECORDS, TRAILER};
+use crate::busy::Answer;
+use crate::layout::{CARD, ENTRY_HEADER, ENTRY_ZONE, FUSES, MOST_RECORDS, TRAILER};
 use crate::refusal::Refusal;
+use crate::volatile::Zone;
 
-pub const MARK: [u8; 2] = [0x4C, 0x4F];
+/// Which entries of a log name a zone; the mark at its end tells.
+#[derive(Clone, Copy, Debug, PartialEq, Eq)]
+pub enum Layout {
+    /// No entry does.
+    Plain,
+    /// Those of zone reads and zone writes do, also when they met a busy card.
+    Zoned,
+}
 
-pub fn write_trailer(trailer: &mut [u8], card_at: usize, count: u16) {
+impl Layout {
+    pub const fn mark(self) -> [u8; 2] {
+        match self {
+            Layout::Plain => [0x4C, 0x4F],
+            Layout::Zoned => [0x4C, 0x50],
+        }
+    }
+
+    pub fn from_mark(mark: &[u8]) -> Option<Layout> {
+        [Layout::Plain, Layout::Zoned].into_iter().find(|layout| layout.mark() == mark)
+    }
+
+    /// Whether an entry of this kind names a zone.
+    fn has_zone(self, kind: u8) -> bool {
+        self == Layout::Zoned && matches!(kind, 4 | 5 | 132 | 133)
+    }
+
+    /// How much of an entry of this kind comes before its response.
+    pub fn before_response(self, kind: u8) -> usize {
+        if self.has_zone(kind) {
+            ENTRY_HEADER + ENTRY_ZONE
+        } else {
+            ENTRY_HEADER
+        }
+    }
+}
+
+/// Writes what comes before a response; `start` has its length, by the layout and the kind.
+pub fn write_start(start: &mut [u8], answer: Answer, zone: Zone) {
+    let [low, high] = (answer.length as u16).to_le_bytes();
+    let (header, zone_byte) = start.split_at_mut(ENTRY_HEADER);
+    header.copy_from_slice(&[answer.kind, low, high]);
+    if let [byte] = zone_byte {
+        *byte = zone.number() as u8;
+    }
+}
+
+pub fn write_trailer(trailer: &mut [u8], card_at: usize, count: u16, layout: Layout) {
     trailer[..4].copy_from_slice(&(card_at as u32).to_le_bytes());
     trailer[4..6].copy_from_slice(&count.to_le_bytes());
-    trailer[6..].copy_from_slice(&MARK);
+    trailer[6..].copy_from_slice(&layout.mark());
 }
 
 /// The least and the greatest response length of each kind of entry; none fits an unknown kind.
@@ -34,31 +80,42 @@ const LENGTHS: [(u16, u16); 256] = {
     lengths
 };
 
-/// An entry's kind and where its response lies.
+/// An entry's kind, the zone that it names, and where its response lies.
 pub struct Entry {
     pub kind: u8,
+    pub zone: Option<Zone>,
     pub response: Range<usize>,
 }
 
 /// Goes through the entries, which must fill `entries` exactly.
 pub struct Entries<'a> {
     entries: &'a [u8],
+    layout: Layout,
     at: usize,
     left: u16,
 }
 
 impl Entries<'_> {
     fn entry(&mut self) -> Option<Entry> {
-        let &[kind, low, high] = self.entries[self.at..].first_chunk::<ENTRY_HEADER>()?;
+        let rest = &self.entries[self.at..];
+        let &[kind, low, high] = rest.first_chunk::<ENTRY_HEADER>()?;
         let length = u16::from_le_bytes([low, high]);
         let (least, most) = LENGTHS[usize::from(kind)];
-        let from = self.at + ENTRY_HEADER;
+        if !(least..=most).contains(&length) {
+            return None;
+        }
+        let mut from = self.at + ENTRY_HEADER;
+        let mut zone = None;
+        if self.layout.has_zone(kind) {
+            zone = Some(Zone::new(*rest.get(ENTRY_HEADER)?)?);
+            from += ENTRY_ZONE;
+        }
         let to = from + usize::from(length);
-        if !(least..=most).contains(&length) || to > self.entries.len() {
+        if to > self.entries.len() {
             return None;
         }
         self.at = to;
-        Some(Entry { kind, response: from..to })
+        Some(Entry { kind, zone, response: from..to })
     }
 }
 
@@ -79,6 +136,7 @@ impl Iterator for Entries<'_> {
 /// A log whose trailer and final fuses are in order; its entries are still to be checked.
 pub struct Log<'a> {
     bytes: &'a [u8],
+    layout: Layout,
     card_at: usize,
     count: u16,
 }
@@ -90,11 +148,11 @@ impl<'a> Log<'a> {
         let trailer = &bytes[trailer_at..];
         let said = u32::from_le_bytes([trailer[0], trailer[1], trailer[2], trailer[3]]);
         let count = u16::from_le_bytes([trailer[4], trailer[5]]);
-        let good = trailer[6..] == MARK
-            && said as usize == card_at
+        let layout = Layout::from_mark(&trailer[6..]).ok_or(Refusal::Log)?;
+        let good = said as usize == card_at
             && count <= MOST_RECORDS
             && Stage::from_fuses(bytes[card_at + FUSES]).is_some();
-        let log = Log { bytes, card_at, count };
+        let log = Log { bytes, layout, card_at, count };
         good.then_some(log).ok_or(Refusal::Log)
     }
 
@@ -104,7 +162,8 @@ impl<'a> Log<'a> {
     }
 
     pub fn entries(&self) -> Entries<'a> {
-        Entries { entries: &self.bytes[..self.card_at], at: 0, left: self.count }
+        let entries = &self.bytes[..self.card_at];
+        Entries { entries, layout: self.layout, at: 0, left: self.count }
     }
 }
 

@@ -1,10 +1,10 @@
 //! The sample sessions: every kind, every refusal a session can get, every fuse stage, every rule
-//! of access, busy cards, in a fixed order.
+//! of access, busy cards, every zone in the log, in a fixed order.
 
 use crate::author::{counter, fresh_card, password, trailer, Author};
 use crate::examples;
 use crate::layout::{
-    CARD, CONFIGURATION, ENTRY_HEADER, LOG_SPACE, LONGEST_SESSION, MOST_RECORDS, SHORTEST_SESSION,
+    CARD, CONFIGURATION, LOG_SPACE, LONGEST_ENTRY, LONGEST_SESSION, MOST_RECORDS, SHORTEST_SESSION,
     ZONE,
 };
 use crate::session;
@@ -440,6 +440,45 @@ fn waits() -> Author {
     author.write(0, &[0]).poll().times(11, |a| a.wait(1).poll()).read(0, 1)
 }
 
+/// Every zone begins with its number.
+fn numbered(fuses: u8) -> Author {
+    Author::new(fuses).each_zone(|a, zone| a.put_zone(zone.into(), 0, &[zone, 0x10 + zone]))
+}
+
+/// Reads and writes of every zone, the configuration beside them; a reset keeps the zone selected,
+/// a power cycle does not.
+fn selected() -> Author {
+    let touched = |a: Author| {
+        let a = a.read(0, 2).read_configuration(0x38, 1).write(1, &[0x5A]).ready();
+        a.write_configuration(0x38, &[0xA5]).ready().read(0, 2)
+    };
+    let author = numbered(7).each_zone(|a, zone| touched(touched(a).select(7 - zone)));
+    touched(touched(author.select(6).reset()).power())
+}
+
+/// Reads and writes of every zone of a busy card. Another zone is not selected meanwhile; power
+/// ends the busy time and selects zone 0.
+fn selected_while_busy() -> Author {
+    let met =
+        |a: Author, zone| a.read(0, 2).write(1, &[0xEE]).select(zone).read(0, 2).write(1, &[0xEE]);
+    let author = numbered(0).each_zone(|a, zone| {
+        let a = met(a.select(zone).write(1, &[0x20 + zone]), 7 - zone).read_configuration(0, 1);
+        a.ready().read_configuration(0, 1).read(0, 2)
+    });
+    met(author.begin(), 3).power().read(0, 2).select(4).write(1, &[0x5A]).power().read(0, 2)
+}
+
+/// Every zone read and written under several passwords; some reads are closed, some writes kept
+/// out.
+fn selected_and_closed() -> Author {
+    let author = numbered(4).put_register(5, register(RPE, 5)).put_register(6, register(MDF, 6));
+    [5, 13, 6, 7].into_iter().fold(author, |author, selector| {
+        author.right(selector).ready().each_zone(|a, zone| {
+            a.select(zone).read(0, 2).write(0xFF, &[zone]).ready().read(0xFF, 3)
+        })
+    })
+}
+
 /// A session as its parts say, however wrong they are.
 fn raw(fuses: u8, records: &[u8], start: usize, count: u16) -> Vec<u8> {
     [&fresh_card(fuses)[..], records, &trailer(start, count)].concat()
@@ -473,6 +512,9 @@ fn accepted() -> Vec<Author> {
         busy_after(),
         met_while_busy(),
         waits(),
+        selected(),
+        selected_while_busy(),
+        selected_and_closed(),
         Author::new(4).times(MOST_RECORDS.into(), Author::power),
         Author::new(0).reset().select(7).reset().read(0, 0),
         Author::new(0).read(0xFF, 0).read(0xFE, 3).read(0, 1),
@@ -531,9 +573,8 @@ fn refused() -> Vec<Vec<u8>> {
 fn logging(author: Author, space: usize) -> Vec<u8> {
     let begun = session::check(&author.clone().session()).expect("the session is sound");
     let entries = space - begun.log_space;
-    let whole = ENTRY_HEADER + ZONE;
-    let last = entries % whole - ENTRY_HEADER;
-    author.times(entries / whole, |a| a.read(0, 0)).read(0, last as u8).session()
+    let last = entries % LONGEST_ENTRY - (LONGEST_ENTRY - ZONE);
+    author.times(entries / LONGEST_ENTRY, |a| a.read(0, 0)).read(0, last as u8).session()
 }
 
 pub fn all() -> Vec<Vec<u8>> {

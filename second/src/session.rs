@@ -1,18 +1,20 @@
 //! A whole session: checked first, then run into its log.
 
 use crate::access::Stage;
-use crate::busy::{self, Answer};
+use crate::busy;
 use crate::card::Card;
 use crate::layout::{
-    CARD, ENTRY_HEADER, FUSES, LONGEST_SESSION, MOST_RECORDS, SHORTEST_LOG, SHORTEST_SESSION,
-    TRAILER,
+    CARD, FUSES, LONGEST_SESSION, MOST_RECORDS, SHORTEST_LOG, SHORTEST_SESSION, TRAILER,
 };
-use crate::log;
+use crate::log::{self, Layout};
 use crate::record::Reader;
 use crate::refusal::Refusal;
 use crate::volatile::Volatile;
 
 pub const MARK: [u8; 2] = [0x53, 0x45];
+
+/// How the log of a session is laid out.
+const LAYOUT: Layout = Layout::Zoned;
 
 /// What the check of a session finds.
 #[derive(Clone, Copy, Debug, PartialEq, Eq)]
@@ -45,7 +47,8 @@ pub fn check(session: &[u8]) -> Result<Checked, Refusal> {
     let mut reader = Reader::new(session, start);
     let mut entries = 0;
     for _ in 0..count {
-        entries += ENTRY_HEADER + reader.next_record()?.response_length();
+        let record = reader.next_record()?;
+        entries += LAYOUT.before_response(record.kind()) + record.response_length();
     }
     if reader.at() != end {
         return Err(Refusal::BytesLeft);
@@ -64,16 +67,17 @@ pub fn run(session: &[u8], log: &mut [u8]) -> Result<usize, Refusal> {
     let mut at = 0;
     for _ in 0..count {
         let record = reader.next_record()?;
-        let Answer { kind, length } = busy::answer(&state, &record);
-        let entry = &mut log[at..at + ENTRY_HEADER + length];
+        let answer = busy::answer(&state, &record);
+        let before = LAYOUT.before_response(answer.kind);
+        let entry = &mut log[at..at + before + answer.length];
         at += entry.len();
-        let (header, response) = entry.split_at_mut(ENTRY_HEADER);
-        let [low, high] = (length as u16).to_le_bytes();
-        header.copy_from_slice(&[kind, low, high]);
+        let (start, response) = entry.split_at_mut(before);
+        // The zone is the one that the record finds selected.
+        log::write_start(start, answer, state.zone);
         busy::perform(&mut card, &mut state, &record, response);
     }
     let (last_card, trailer) = log[at..at + SHORTEST_LOG].split_at_mut(CARD);
     last_card.copy_from_slice(&card);
-    log::write_trailer(trailer, at, count);
+    log::write_trailer(trailer, at, count, LAYOUT);
     Ok(at + SHORTEST_LOG)
 }

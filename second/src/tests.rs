@@ -1,16 +1,18 @@
 //! What the paper says in so many words: cases A–L, the edges, the printed example, each refusal
 //! by its number, the tries left, what closed bytes show, and the mistakes that are easily made.
-//! What is said of a busy card has a file of its own.
+//! What is said of a busy card and of the zones in a log has files of its own.
 
 mod busy;
+mod zones;
 
 use std::collections::{BTreeSet, HashMap};
 
-use crate::author::{counter, fresh_card, password, trailer, Author};
+use crate::author::{counter, entry, fresh_card, log_of, password, trailer, Author};
 use crate::command::{command, Reply};
 use crate::layout::{
-    AAC, CARD, CONFIGURATION, ENTRY_HEADER, FUSES, LOG_SPACE, LONGEST_SESSION, MOST_RECORDS,
-    REGISTERS, SHORTEST_LOG, SHORTEST_SESSION, STATE, TRAILER, ZONE,
+    AAC, CARD, CONFIGURATION, ENTRY_HEADER, ENTRY_ZONE, FUSES, LOG_SPACE, LONGEST_ENTRY,
+    LONGEST_SESSION, MOST_RECORDS, REGISTERS, SHORTEST_LOG, SHORTEST_SESSION, STATE, TRAILER, ZONE,
+    ZONES,
 };
 use crate::listing::listing;
 use crate::record::Reader;
@@ -19,6 +21,10 @@ use crate::session::{check, run};
 use crate::{edges, encoded, examples, gen, log, samples};
 
 const NONE: [u8; STATE] = [0; STATE];
+
+/// What ends a log in which no entry names a zone, and one in which some do.
+const PLAIN: [u8; 2] = [0x4C, 0x4F];
+const ZONED: [u8; 2] = [0x4C, 0x50];
 
 /// The configuration addresses of the seventeen counters, in the order of the listing.
 #[rustfmt::skip]
@@ -561,7 +567,7 @@ fn sessions_refused_in_order() {
     assert_eq!(run(&two, &mut vec![0; needed - 1]), Err(Refusal::Space));
     assert_eq!(run(&two, &mut vec![0; needed]), Ok(needed));
     let most = usize::from(MOST_RECORDS);
-    let needed = SHORTEST_LOG + most * (ENTRY_HEADER + ZONE);
+    let needed = SHORTEST_LOG + most * LONGEST_ENTRY;
     let most = Author::new(7).times(most, |a| a.read(0, 0)).session();
     assert_eq!(run(&most, &mut vec![0; 1_100_000]), Ok(needed));
 }
@@ -607,15 +613,18 @@ fn session_and_single_commands_agree() {
         let n = run(&session, &mut log).unwrap();
         let (mut card, mut state) = (session[..CARD].to_vec(), NONE);
         let mut reader = Reader::new(&session, check(&session).unwrap().start);
-        for k in 0..check(&session).unwrap().count {
+        let entries = log::Log::open(&log[..n]).unwrap().entries();
+        for (k, entry) in entries.enumerate() {
+            let (entry, zone) = (entry.unwrap(), state[0]);
             let from = reader.at();
             reader.next_record().unwrap();
             let mut space = [0; 256];
             let record = &session[from..reader.at()];
             let reply = command(&mut card, &mut state, record, &mut space).unwrap();
-            let found = log::find(&log[..n], k.into()).unwrap();
-            assert_eq!(log[found.start - ENTRY_HEADER], reply.kind);
-            assert_eq!(log[found], space[..reply.length]);
+            assert_eq!(entry.kind, reply.kind);
+            assert!(entry.zone.is_none_or(|named| named.number() == zone.into()));
+            assert_eq!(log[entry.response.clone()], space[..reply.length]);
+            assert_eq!(log::find(&log[..n], k as u64), Ok(entry.response));
         }
         assert_eq!(card, log[n - SHORTEST_LOG..n - TRAILER]);
     }
@@ -675,8 +684,8 @@ fn kinds(session: &[u8]) -> BTreeSet<u8> {
 fn sessions_wait_for_the_card() {
     let ignored = |session: &[u8]| kinds(session).into_iter().any(|kind| kind >= 128);
     let examples = examples::all().into_iter().filter(|(_, session)| ignored(session));
-    assert!(examples.map(|(name, _)| name).eq(["busy"]));
-    assert_eq!(samples::all().iter().filter(|session| ignored(session)).count(), 3);
+    assert!(examples.map(|(name, _)| name).eq(["busy", "zones"]));
+    assert_eq!(samples::all().iter().filter(|session| ignored(session)).count(), 4);
 }
 
 #[test]
@@ -703,7 +712,7 @@ fn samples_meet_every_session_refusal() {
         assert!(listings.contains(&format!("refused {number}\n")), "{number}");
     }
     let total: usize = samples::all().iter().map(Vec::len).sum();
-    assert!(total < 315_000);
+    assert!(total < 325_000);
 }
 
 /// The sessions at the edges, by name.
@@ -743,16 +752,19 @@ fn edge_sessions_have_their_sizes() {
 const ENDING: &str = "tries 8 8 8 8 8 8 8 8 8 8 8 8 8 8 8 8 8\nfuses 07\n";
 
 /// A listing's length depends on how many records there are and how many bytes they answer in all,
-/// so every number of records is tried with the most that it can answer. A busy card answers less
-/// in the same space.
+/// so every number of records, and of zone reads among them, is tried with the most that it can
+/// answer. A busy card answers less in the same space.
 #[test]
 fn no_listing_is_longer() {
     let (mut digits, mut longest) = (0, 0);
     for count in 0..=usize::from(MOST_RECORDS) {
-        let room = LOG_SPACE - SHORTEST_LOG - ENTRY_HEADER * count;
-        let answered = room.min(ZONE * count);
-        let lines = digits + " 04\n".len() * count + " FF".len() * answered;
-        longest = longest.max(lines + ENDING.len());
+        for zone_reads in 0..=count {
+            let taken = SHORTEST_LOG + ENTRY_HEADER * count + ENTRY_ZONE * zone_reads;
+            let most = ZONE * zone_reads + (FUSES - CONFIGURATION) * (count - zone_reads);
+            let answered = most.min(LOG_SPACE - taken);
+            let lines = digits + " 04\n".len() * count + " FF".len() * answered;
+            longest = longest.max(lines + ENDING.len());
+        }
         digits += count.to_string().len();
     }
     assert_eq!(listing(&edge_sessions()["longest-listing"]).len(), longest);

@@ -6,10 +6,11 @@
 mod both;
 mod busy;
 mod proved;
+mod zones;
 
 use std::collections::BTreeMap;
 
-use second::author::{counter, fresh_card, Author};
+use second::author::{counter, entry, fresh_card, log_of, Author};
 use second::edges;
 use second::gen::{self, Rng};
 use second::layout::{
@@ -21,6 +22,10 @@ use second::session;
 
 const STAGES: [u8; 4] = [7, 6, 4, 0];
 const FIXED: &str = "none: a fixed case";
+
+/// What ends a log in which no entry names a zone, and one in which some do.
+const PLAIN: [u8; 2] = [0x4C, 0x4F];
+const ZONED: [u8; 2] = [0x4C, 0x50];
 
 /// How often something was met.
 #[derive(Default)]
@@ -571,8 +576,12 @@ fn one_session(rng: &mut Rng, seed: &str, session: &[u8], met: &mut Met) {
             assert_eq!(both::run(seed, session, written).0, 10);
             met.note("log shorter than its space");
         }
-        read_log(rng, seed, &log[..written], met);
-        let damaged = gen::damaged_log(rng, &log[..written]);
+        let logs = [log[..written].to_vec(), gen::without_zones(&log[..written])];
+        for log in &logs {
+            read_log(rng, seed, log, met);
+        }
+        let either = rng.below(2);
+        let damaged = gen::damaged_log(rng, &logs[either]);
         read_log(rng, seed, &damaged, met);
     } else {
         both::run(seed, session, rng.pick(&[0, SHORTEST_LOG - 1, SHORTEST_LOG, 3000]));
@@ -604,11 +613,11 @@ fn sessions_and_logs() {
     }
 }
 
-/// Every change of one byte behind the card of a session, and of its log, and every cut.
+/// Every change of one byte behind the card of a session, and of its log in either layout, and
+/// every cut.
 fn changes(session: &[u8]) {
     let (result, space) = both::run(FIXED, session, 3000);
-    let log = space[..(result >> 8) as usize].to_vec();
-    let count = u64::from(session[session.len() - 4]);
+    let log = &space[..(result >> 8) as usize];
     for at in (FUSES..session.len()).rev() {
         both::run(FIXED, &session[..at], 3000);
         for value in 0..=255 {
@@ -617,12 +626,22 @@ fn changes(session: &[u8]) {
             both::run(FIXED, &changed, 3000);
         }
     }
+    for length in (0..session.len()).step_by(5) {
+        both::run(FIXED, &session[..length], 3000);
+    }
+    let count = u64::from(session[session.len() - 4]);
+    for log in [log, &gen::without_zones(log)] {
+        log_changes(log, count);
+    }
+}
+
+fn log_changes(log: &[u8], count: u64) {
     let card_at = log.len() - SHORTEST_LOG;
     let trailer = card_at + FUSES..log.len();
     for at in (0..card_at).chain(trailer) {
         both::answer(FIXED, &log[..at], 0);
         for value in 0..=255 {
-            let mut changed = log.clone();
+            let mut changed = log.to_vec();
             changed[at] = value;
             for number in [0, count - 1, count] {
                 both::answer(FIXED, &changed, number);
@@ -632,9 +651,6 @@ fn changes(session: &[u8]) {
     for length in 0..log.len() {
         both::answer(FIXED, &log[length..], 0);
         both::answer(FIXED, &log[..length], 0);
-    }
-    for length in (0..session.len()).step_by(5) {
-        both::run(FIXED, &session[..length], 3000);
     }
 }
 
@@ -724,42 +740,44 @@ fn every_set_of_faults_in_a_session() {
     }
 }
 
-/// A log written by hand: these entries' kinds and lengths, zeros for responses.
-fn written_log(entries: &[(u8, u16)], count: u16) -> Vec<u8> {
-    let mut log = Vec::new();
-    for &(kind, length) in entries {
-        log.push(kind);
-        log.extend(length.to_le_bytes());
-        log.resize(log.len() + usize::from(length), 0);
-    }
-    let card_at = log.len() as u32;
-    log.extend(fresh_card(4));
-    log.extend(card_at.to_le_bytes());
-    log.extend(count.to_le_bytes());
-    log.extend(b"LO");
-    log
+/// A log written by hand: these entries' kinds and lengths, zeros for responses, and zones where
+/// the layout has them.
+fn written_log(entries: &[(u8, usize)], count: u16, mark: [u8; 2]) -> Vec<u8> {
+    let entries = entries.iter().map(|&(kind, length)| {
+        let zone = zones::named(kind, mark).then_some(5);
+        entry(kind, zone, &vec![0; length])
+    });
+    log_of(&entries.collect::<Vec<_>>().concat(), count, mark)
 }
 
-#[test]
-fn every_kind_and_length_in_a_log() {
+/// Logs of one layout.
+fn kinds_and_lengths(mark: [u8; 2]) {
     for kind in 0..=255 {
         for length in (0..=300).chain([511, 512, 0x0101, 0xFFFF]) {
-            let log = written_log(&[(8, 1), (kind, length), (1, 0)], 3);
+            let log = written_log(&[(8, 1), (kind, length), (1, 0)], 3, mark);
             for number in 0..4 {
                 both::answer(FIXED, &log, number);
             }
         }
     }
     for count in [MOST_RECORDS - 1, MOST_RECORDS, MOST_RECORDS + 1, 5000] {
-        let entries = vec![(11, 0); count.into()];
-        let log = written_log(&entries, count);
-        for number in std::iter::once(0).chain(MOST_RECORDS - 2..=MOST_RECORDS + 1) {
-            both::answer(FIXED, &log, number.into());
+        for kind in [11, 5, 133] {
+            let entries = vec![(kind, 0); count.into()];
+            let log = written_log(&entries, count, mark);
+            for number in std::iter::once(0).chain(MOST_RECORDS - 2..=MOST_RECORDS + 1) {
+                both::answer(FIXED, &log, number.into());
+            }
         }
     }
     for count in 0..5 {
-        both::answer(FIXED, &written_log(&[(4, 256), (6, 128), (2, 4)], count), 0);
+        both::answer(FIXED, &written_log(&[(4, 256), (6, 128), (2, 4)], count, mark), 0);
     }
+}
+
+#[test]
+fn every_kind_and_length_in_a_log() {
+    kinds_and_lengths(PLAIN);
+    kinds_and_lengths(ZONED);
 }
 
 #[test]

@@ -1,4 +1,4 @@
--- How large the numbers in a result can be: a response has at most 256 bytes, a log at most 4096 entries of 259 bytes, a card
+-- How large the numbers in a result can be: a response has at most 256 bytes, a log at most 4096 entries of 260 bytes, a card
 -- and its trailer.
 use Prim.Native.Nat.{ℕ, zero, suc, _+_, _*_, _≤_, _<_}
 use mathlib.Core.Bool.{true}
@@ -21,10 +21,12 @@ use Rattle.model.specs.Busy.{State, ignores, answeredKind}
 use Rattle.laws.specs.BusyLaws.{given-answer, given-most, triesUsed}
 use Rattle.laws.specs.Effects.{triesAfter}
 use Rattle.laws.specs.Sane.{good-check}
-use Rattle.model.specs.Log.{Entry, lengthAt, nextEntry, entryOk, entriesOk, entryPlace, LaidOut, countOf, offsetOf, trailerOk, valid, find, located}
+use Rattle.model.specs.Log.{Ending, endingOf, zoned, Entry, LaidOut, headerLength, lengthAt, nextEntry, entryOk, entriesOk, entryPlace, countOf, offsetOf}
+use Rattle.model.specs.Log.{trailerOk, validAs, placeOf, find, located}
 use Rattle.model.specs.Record.{decode}
 use Rattle.model.specs.Session.{run}
 use Rattle.model.specs.Single.{check, act, admit, command}
+use Rattle.laws.specs.EntryLaws.{header-most}
 use Rattle.properties.specs.LogLaws.{entered, trailed, answered}
 use Rattle.properties.specs.Written.{fits-small, entry-small, entries-small, log-length}
 use Rattle.properties.specs.SessionAcceptance.{accepted-run, run-accepted}
@@ -80,21 +82,25 @@ tries-small c s x = go (admit c s x) refl
 
 -- ---- an answer of a log
 
-module _ (l : List ℕ) (end : ℕ) where
-  place-small : (n i : ℕ) → entriesOk n l i end ≡ true → (k : ℕ) → k < n → (lengthAt l (entryPlace k l i) ≤ 256) × (entryPlace k l i ≤ i + 259 * k)
+module _ (E : Ending) (l : List ℕ) (end : ℕ) where
+  place-small : (n i : ℕ) → entriesOk E n l i end ≡ true → (k : ℕ) → k < n
+      → (lengthAt l (entryPlace E k l i) ≤ 256) × (entryPlace E k l i ≤ i + 260 * k)
   place-small zero i e k h = absurd (let z : ⊥ = omega arith in z)
-  place-small (suc n) i e zero h = (entry-small _ _ (entered l i end (and-left (entryOk l i end) _ e) .fits), omega arith)
+  place-small (suc n) i e zero h = (entry-small _ _ (entered E l i end (and-left (entryOk E l i end) _ e) .fits), omega arith)
   place-small (suc n) i e (suc k) h =
-      let f = entry-small _ _ (entered l i end (and-left (entryOk l i end) _ e) .fits) in
-      let p = place-small n (nextEntry l i) (and-right (entryOk l i end) _ e) k (le-of-suc-le-suc h) in
+      let f = entry-small _ _ (entered E l i end (and-left (entryOk E l i end) _ e) .fits) in
+      let d = header-most E (at l i) in
+      let p = place-small n (nextEntry E l i) (and-right (entryOk E l i end) _ e) k (le-of-suc-le-suc h) in
       (p .0, let q = p .1 in omega arith)
 
-pub answer-small : (l : List ℕ) (k from n : ℕ) → find l k ≡ located from n → (n ≤ 256) × (from ≤ 259 * mostRecords)
-unfolding valid
+pub answer-small : (l : List ℕ) (k from n : ℕ) → find l k ≡ located from n → (n ≤ 256) × (from ≤ 260 * mostRecords)
+unfolding validAs
 answer-small l k from n e =
     let a = answered l k from n e in
-    let t = trailed l (and-left (trailerOk l) _ (a .accepted)) .few in
-    let p = place-small l (offsetOf l) (countOf l) 0 (and-right (trailerOk l) _ (a .accepted)) k (a .counted) in
+    let E : Ending = endingOf l in
+    let t = trailed E l (and-left (trailerOk E l) _ (a .accepted)) .few in
+    let p = place-small E l (offsetOf l) (countOf l) 0 (and-right (trailerOk E l) _ (a .accepted)) k (a .counted) in
+    let d = header-most E (at l (placeOf l k)) in
     let s = a .start in
     let z = a .size in
     let c = a .counted in
@@ -104,18 +110,18 @@ answer-small l k from n e =
 
 -- ---- a log
 
-log-small : (es : List Entry) (card l : List ℕ) → LaidOut es card l → length l ≤ 259 * mostRecords + leastLog
+log-small : (es : List Entry) (card l : List ℕ) → LaidOut zoned es card l → length l ≤ 260 * mostRecords + leastLog
 log-small es card l w =
-    let s = entries-small es (w .fit) in
+    let s = entries-small zoned es (w .fit) in
     let f = w .few in
-    let e = log-length es card l w in
+    let e = log-length zoned es card l w in
     omega arith
 
 -- of a session of bytes
-pub run-small : (s space : List ℕ) → Bytes s → run s space .size ≤ 259 * mostRecords + leastLog
+pub run-small : (s space : List ℕ) → Bytes s → run s space .size ≤ 260 * mostRecords + leastLog
 run-small s space b = go (run s space .refusal) refl
   where
-    go : (n : ℕ) → run s space .refusal ≡ n → run s space .size ≤ 259 * mostRecords + leastLog
+    go : (n : ℕ) → run s space .refusal ≡ n → run s space .size ≤ 260 * mostRecords + leastLog
     go zero e =
         let a = accepted-run s space e in
         rw (run-accepted s space (a .0) (a .1)) (log-small _ _ _ (laid-out s space (a .0) b (a .1)))

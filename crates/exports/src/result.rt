@@ -32,7 +32,7 @@ pub fn command_number(outcome: Outcome, length: usize, tries: u8, kind: u8) -> u
 
 // helper: 2^8 times an answer's length and 2^40 times where it begins.
 pub fn answer_number(from: usize, length: usize) -> u64
-    requires { ⌜ (length ≤ 256) × (from ≤ 259 * mostRecords) ⌝ }
+    requires { ⌜ (length ≤ 256) × (from ≤ 260 * mostRecords) ⌝ }
     ensures { λ r. ⌜ r ≡ exportedAnswer (located from length) ⌝ }
 {
     let start = from as u64;

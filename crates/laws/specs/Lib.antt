@@ -16,4 +16,5 @@ pub mod ReadLaws
 pub mod WordLaws
 pub mod Effects
 pub mod BusyLaws
+pub mod EntryLaws
 pub mod Sane

@@ -194,6 +194,10 @@ good-check c s e =
       time = leb-true _ _ (and-right (volatileInRange at88sc1608 (s .volatile)) _ r);
     }
 
+-- the zone that is selected is one of the eight
+pub zone-below : (c : List ℕ) (s : State) → Good c s → s .volatile .zone < 8
+zone-below c s g = ltb-true _ _ (and-left (ltb (s .volatile .zone) 8) _ (g .fit .range))
+
 -- a command with its fields in range leaves a fit card and state fit
 fit-after : (c : List ℕ) (v : Volatile) (k : Command) → Fields k → Fit c v
     → Fit (any.apply at88sc1608 c v k .card) (any.apply at88sc1608 c v k .report .state)

@@ -1,8 +1,8 @@
 -- A rule over a table or over all bytes: one test that is computed at every number below n, and the law that turns it into the
 -- rule at each.
 use Prim.Native.Nat.{ℕ, zero, suc, _+_, _≤_, _<_}
-use mathlib.Core.Bool.{Bool, true, false, _&&_}
-use mathlib.Core.Path.{_≡_, refl}
+use mathlib.Core.Bool.{Bool, true, false, not, _&&_, true≢false}
+use mathlib.Core.Path.{_≡_, refl, sym}
 use native.Mathlib.Nat.{not-suc-le-zero}
 use native.Mathlib.Omega.{arith}
 use borrow.Author.Tests.{eqb-true, eqb-false}
@@ -24,6 +24,20 @@ passes-at f (suc n) e k h = go (passes-at f n (and-right (f n) (everyBelow f n) 
 
 pub agree-at : (f g : ℕ → ℕ) (n : ℕ) → everyBelow (λ k. eqb (f k) (g k)) n ≡ true → (k : ℕ) → k < n → f k ≡ g k
 agree-at f g n e k h = eqb-true (f k) (g k) (passes-at (λ i. eqb (f i) (g i)) n e k h)
+
+-- two tests with one outcome
+abbrev pub alike : Bool → Bool → Bool
+alike true b = b
+alike false b = not b
+
+alike-same : (a b : Bool) → alike a b ≡ true → a ≡ b
+alike-same true true e = refl
+alike-same true false e = absurd (true≢false (sym e))
+alike-same false true e = absurd (true≢false (sym e))
+alike-same false false e = refl
+
+pub tests-at : (f g : ℕ → Bool) (n : ℕ) → everyBelow (λ k. alike (f k) (g k)) n ≡ true → (k : ℕ) → k < n → f k ≡ g k
+tests-at f g n e k h = alike-same (f k) (g k) (passes-at (λ i. alike (f i) (g i)) n e k h)
 
 -- proofs of P at i, .., i + n - 1
 abbrev pub Each : (ℕ → Type 0) → ℕ → ℕ → Type 0

@@ -11,7 +11,8 @@ use Rattle.model.specs.Device.{triesOf}
 use Rattle.model.specs.At88sc1608.{at88sc1608}
 use Rattle.model.specs.Lists.{at}
 use Rattle.laws.specs.BoolLaws.{and-left, and-right}
-use Rattle.model.specs.Log.{countOf, offsetOf, lengthAt, entryOk, entriesOk, trailerOk, valid}
+use Rattle.model.specs.Log.{zoned, headerLength, countOf, offsetOf, lengthAt, responseAt, entryOk, entriesOk, trailerOk, validAs}
+use Rattle.laws.specs.EntryLaws.{header-least}
 use Rattle.properties.specs.LogLaws.{entered, Trailed, trailed}
 use Rattle.text.specs.Put.{Put}
 use Rattle.listing.specs.Ready.{EntriesReady, LogReady}
@@ -22,10 +23,6 @@ use Rattle.listing.specs.ListingLaws.{tries-line, card-lines}
 use Rattle.text.proofs.PutLaws.{put-then}
 
 -- ---- one line
-
--- the part of an entry behind its first three bytes
-pub response-part : (e : List ℕ) → 3 ≤ length e → take (length e - 3) (drop 3 e) ≡ drop 3 e
-response-part e h = take-all (length e - 3) (drop 3 e) (let a = length-drop 3 e in omega arith)
 
 module _ (number kind : ℕ) (response : List ℕ) where
   pub line-is : length (line number kind response) ≡ length (decimal number) + 3 + 3 * length response + 1
@@ -80,7 +77,7 @@ module _ (c l : List ℕ) (i : ℕ) (l₁ : List ℕ) (i₁ : ℕ) (p : Put l i 
 -- the first i lines are put, and the rest make up the whole
 pub record Lining (text l : List ℕ) (count end i place to : ℕ) (text′ : List ℕ) : Type 0 where
   pub few : i ≤ count
-  pub well : entriesOk (count - i) l place end ≡ true
+  pub well : entriesOk zoned (count - i) l place end ≡ true
   pub within : end ≤ length l
   pub done : List ℕ
   pub front : Put text 0 done text′ to
@@ -100,76 +97,58 @@ lining-start text l count end r =
       small = r .small;
     }
 
-drop-take : (k n : ℕ) (l : List ℕ) → drop k (take (k + n) l) ≡ take n (drop k l)
-drop-take zero n l = ap (λ (m : ℕ). take m l) (let z : 0 + n ≡ n = omega arith in z)
-drop-take (suc k) n [] = rw (take-nil {A = ℕ} (suc k + n), drop-nil {A = ℕ} (suc k), take-nil {A = ℕ} n)
-drop-take (suc k) n (x ∷ l) = ap (λ (m : ℕ). drop (suc k) (take m (x ∷ l))) (let z : suc k + n ≡ suc (k + n) = omega arith in z) ∙ drop-take k n l
-
 module _ (text l : List ℕ) (count end i place to : ℕ) (text′ : List ℕ) (g : Lining text l count end i place to text′) (more : i < count) where
   one-fewer : count - i ≡ suc (count - (i + 1))
   one-fewer = omega arith
 
-  here : entryOk l place end ≡ true
-  here = and-left (entryOk l place end) _ (sym (ap (λ (n : ℕ). entriesOk n l place end) one-fewer) ∙ g .well)
+  here : entryOk zoned l place end ≡ true
+  here = and-left (entryOk zoned l place end) _ (sym (ap (λ (n : ℕ). entriesOk zoned n l place end) one-fewer) ∙ g .well)
 
   pub header-within : place + 3 ≤ length l
-  header-within = let e = entered l place end here .header in let w = g .within in omega arith
+  header-within = let e = entered zoned l place end here .header in let w = g .within in omega arith
 
-  module _ (n : ℕ) (long : n ≡ lengthAt l place) where
-    pub entry-ends : place + 3 + n ≤ length l
-    entry-ends = let e = entered l place end here .next in let w = g .within in let o = long in omega arith
+  pub response-begins : (h : ℕ) → h ≡ headerLength zoned (at l place) → place + h ≤ length l
+  response-begins h header = let e = entered zoned l place end here .next in let w = g .within in let d = header in omega arith
 
-    -- the part of the log that is this entry
+  module _ (h n : ℕ) (header : h ≡ headerLength zoned (at l place)) (long : n ≡ lengthAt l place) where
+    pub entry-ends : place + h + n ≤ length l
+    entry-ends = let e = entered zoned l place end here .next in let w = g .within in let o = long in let d = header in omega arith
+
+    -- the part of the log that is its response
     abbrev part : List ℕ
-    part = take (place + 3 + n - place) (drop place l)
-
-    pub part-long : 3 ≤ length part
-    part-long =
-        let e = entry-ends in
-        let a = length-drop place l in
-        let b = length-take-le (place + 3 + n - place) (drop place l) (omega arith) in
-        omega arith
+    part = take (place + h + n - (place + h)) (drop (place + h) l)
 
     -- its line is the next of the log's
-    same-line : line i (at part 0) (drop 3 part) ≡ line i (at l place) (take (lengthAt l place) (drop (place + 3) l))
+    same-line : line i (at l place) part ≡ line i (at l place) (take (lengthAt l place) (drop (responseAt zoned l place) l))
     same-line =
-        let e : place + 3 + n - place ≡ 3 + n = omega arith in
-        let z : place + 0 ≡ place = omega arith in
-        rw (
-          getD-take (place + 3 + n - place) (drop place l) 0 0 (omega arith),
-          getD-drop place l 0 0,
-          z,
-          e,
-          drop-take 3 n (drop place l),
-          drop-drop 3 place l,
-          long,
-        )
+        let e : place + h + n - (place + h) ≡ lengthAt l place = let o = long in omega arith in
+        λ j. line i (at l place) (take (e j) (drop (place + header j) l))
 
-    next-lines : linesAt (count - i) i l place ≡ line i (at part 0) (drop 3 part) ++ linesAt (count - (i + 1)) (i + 1) l (place + 3 + n)
+    next-lines : linesAt (count - i) i l place ≡ line i (at l place) part ++ linesAt (count - (i + 1)) (i + 1) l (place + h + n)
     next-lines =
         let z : suc i ≡ i + 1 = omega arith in
         ap (λ (m : ℕ). linesAt m i l place) one-fewer
-        ∙ rw (same-line, z, long)
+        ∙ rw (same-line, z, long, header)
 
-    pub line-fits : to + length (line i (at part 0) (drop 3 part)) < 2 ^ 64
+    pub line-fits : to + length (line i (at l place) part) < 2 ^ 64
     line-fits =
         let a = g .front .past in
         let b = length-append (g .done) (linesAt (count - i) i l place) in
         let c = ap length (g .whole) in
-        let d = ap length next-lines ∙ length-append (line i (at part 0) (drop 3 part)) (linesAt (count - (i + 1)) (i + 1) l (place + 3 + n)) in
+        let d = ap length next-lines ∙ length-append (line i (at l place) part) (linesAt (count - (i + 1)) (i + 1) l (place + h + n)) in
         let s = g .small in
         omega arith
 
-    pub lining-next : (to′ : ℕ) (text″ : List ℕ) → Put text′ to (line i (at part 0) (drop 3 part)) text″ to′
-        → Lining text l count end (i + 1) (place + 3 + n) to′ text″
+    pub lining-next : (to′ : ℕ) (text″ : List ℕ) → Put text′ to (line i (at l place) part) text″ to′
+        → Lining text l count end (i + 1) (place + h + n) to′ text″
     lining-next to′ text″ q =
         record {
           few = omega arith;
-          well = rw long (and-right (entryOk l place end) _ (sym (ap (λ (m : ℕ). entriesOk m l place end) one-fewer) ∙ g .well));
+          well = rw (long, header) (and-right (entryOk zoned l place end) _ (sym (ap (λ (m : ℕ). entriesOk zoned m l place end) one-fewer) ∙ g .well));
           within = g .within;
-          done = g .done ++ line i (at part 0) (drop 3 part);
-          front = put-then text 0 (g .done) text′ to (line i (at part 0) (drop 3 part)) text″ to′ (g .front) q;
-          whole = append-assoc (g .done) (line i (at part 0) (drop 3 part)) _ ∙ ap (λ (x : List ℕ). g .done ++ x) (sym next-lines) ∙ g .whole;
+          done = g .done ++ line i (at l place) part;
+          front = put-then text 0 (g .done) text′ to (line i (at l place) part) text″ to′ (g .front) q;
+          whole = append-assoc (g .done) (line i (at l place) part) _ ∙ ap (λ (x : List ℕ). g .done ++ x) (sym next-lines) ∙ g .whole;
           small = g .small;
         }
 
@@ -183,9 +162,9 @@ lining-done text l count end i place to text′ g h =
 -- ---- a log
 
 module _ (l : List ℕ) (r : LogReady l) where
-  pub log-trailed : Trailed l
-  unfolding valid
-  log-trailed = trailed l (and-left (trailerOk l) _ (r .well))
+  pub log-trailed : Trailed zoned l
+  unfolding validAs
+  log-trailed = trailed zoned l (and-left (trailerOk zoned l) _ (r .well))
 
   log-long : length (logLines l) ≡ length (linesAt (countOf l) 0 l 0) + 49
   log-long =
@@ -196,10 +175,10 @@ module _ (l : List ℕ) (r : LogReady l) where
 
   module _ (count start : ℕ) (counted : count ≡ countOf l) (points : start ≡ offsetOf l) where
     pub entries-ready : EntriesReady l count start
-    unfolding valid
+    unfolding validAs
     entries-ready =
         record {
-          well = rw (counted, points) (and-right (trailerOk l) _ (r .well));
+          well = rw (counted, points) (and-right (trailerOk zoned l) _ (r .well));
           within = let m = log-trailed .meets in let p = points in omega arith;
           small = rw counted (let s = r .small in let a = log-long in omega arith);
         }

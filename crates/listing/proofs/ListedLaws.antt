@@ -7,14 +7,13 @@ use lib.ListN.{length, take, drop, length-append}
 use lib.Seq.{take-append-seam}
 use Rattle.model.specs.Lists.{Bytes}
 use Rattle.model.specs.Instruction.{Instruction}
-use Rattle.model.specs.Log.{LaidOut}
+use Rattle.model.specs.Log.{zoned, LaidOut}
 use Rattle.model.specs.Session.{entriesOf, endOf, initial, logOf, Ran, run}
 use Rattle.record.specs.RefusalNumber.{refusalNumber, number-some}
 use Rattle.record.specs.declared.refusal.Refusal.{Refusal}
-use Rattle.properties.specs.Written.{log-length, entries-small}
+use Rattle.properties.specs.Written.{log-length, entries-small, written-well}
 use Rattle.properties.specs.AcceptedSession.{Accepts, accepting}
 use Rattle.properties.specs.SessionAcceptance.{accepted-run, run-accepted}
-use Rattle.properties.specs.LogReading.{log-valid}
 use Rattle.properties.specs.ReadBack.{laid-out}
 use Rattle.text.specs.Put.{Put}
 use Rattle.listing.specs.Ready.{LogReady}
@@ -49,7 +48,7 @@ module _ (s log : List ℕ) (r : Ran) (ran : r ≡ run s log) where
     whole : r ≡ accepting (logOf s ks) log
     whole = ran ∙ run-accepted s log ks (accepts .1)
 
-    laid : LaidOut (entriesOf ks (initial s)) (endOf ks (initial s) .card) (logOf s ks)
+    laid : LaidOut zoned (entriesOf ks (initial s)) (endOf ks (initial s) .card) (logOf s ks)
     laid = laid-out s log ks bytes (accepts .1)
 
     pub within : r .size ≤ length (r .space)
@@ -66,11 +65,11 @@ module _ (s log : List ℕ) (r : Ran) (ran : r ≡ run s log) where
     log-ready =
         rw front
         (record {
-          well = log-valid s log ks bytes (accepts .1);
+          well = written-well zoned _ _ _ laid;
           small =
               let a = listing-length _ _ _ laid in
-              let b = log-length _ _ _ laid in
-              let c = entries-small (entriesOf ks (initial s)) (laid .fit) in
+              let b = log-length zoned _ _ _ laid in
+              let c = entries-small zoned (entriesOf ks (initial s)) (laid .fit) in
               let d = laid .few in
               omega arith;
         })

@@ -9,7 +9,7 @@ use Rattle.model.specs.Lists.{at}
 use Rattle.model.specs.Instruction.{Instruction}
 use Rattle.model.specs.Device.{triesOf}
 use Rattle.model.specs.At88sc1608.{at88sc1608}
-use Rattle.model.specs.Log.{countOf, offsetOf, lengthAt, nextEntry}
+use Rattle.model.specs.Log.{zoned, countOf, offsetOf, lengthAt, responseAt, nextEntry}
 use Rattle.model.specs.Session.{instructionsIn, readFrom, entriesOf, endOf, initial, run}
 use Rattle.model.specs.Session as session
 use Rattle.text.specs.Text.{line, lines, triesLine, fusesLine, refusedLine}
@@ -51,11 +51,11 @@ pub record Printed (s text : List ℕ) (size : ℕ) (text′ : List ℕ) : Type 
   pub within : size ≤ length text′
   pub bytes : text′ ≡ sets text 0 (printed s)
 
--- ---- by places in a log
+-- ---- by places in a log that was written
 
 abbrev pub linesAt : ℕ → ℕ → List ℕ → ℕ → List ℕ
 linesAt zero k l i = []
-linesAt (suc n) k l i = line k (at l i) (take (lengthAt l i) (drop (i + 3) l)) ++ linesAt n (suc k) l (nextEntry l i)
+linesAt (suc n) k l i = line k (at l i) (take (lengthAt l i) (drop (responseAt zoned l i) l)) ++ linesAt n (suc k) l (nextEntry zoned l i)
 
 abbrev pub logLines : List ℕ → List ℕ
 logLines l = linesAt (countOf l) 0 l 0 ++ cardLines (take cardSize (drop (offsetOf l) l))

@@ -9,26 +9,32 @@ use Rattle.model.specs.Lists.{at, tab}
 use Rattle.model.specs.Bits.{triesLeft}
 use Rattle.model.specs.Device.{triesOf}
 use Rattle.model.specs.At88sc1608.{at88sc1608, counterAt, attemptsAt}
-use Rattle.model.specs.Log.{Entry, entryBytes, entriesBytes, logTrailer, AllFit, LaidOut}
+use Rattle.model.specs.Log.{zoned, Entry, entryBytes, entriesBytes, logTrailer, AllFit, LaidOut}
 use Rattle.properties.specs.TriesLeft.{at-most-eight}
+use Rattle.laws.specs.EntryLaws.{header-least}
 use Rattle.properties.specs.Written.{length-entry, kind-at, response-at, next-at, fits-two, first-entry, other-entries, count-is, log-length, written-card}
 use Rattle.text.specs.Text.{decimal, decimals, line, lines, triesLine, fusesLine}
 use Rattle.text.specs.TextLaws.{line-length, decimal-one, decimals-last, decimals-tab}
 use Rattle.listing.specs.Listing.{cardLines, linesAt, logLines}
 
-entries-listed : (es : List Entry) (p q : List ℕ) (k : ℕ) → AllFit es → linesAt (length es) k (p ++ (entriesBytes es ++ q)) (length p) ≡ lines k es
+entries-listed : (es : List Entry) (p q : List ℕ) (k : ℕ) → AllFit zoned es → linesAt (length es) k (p ++ (entriesBytes zoned es ++ q)) (length p) ≡ lines k es
 entries-listed [] p q k f = refl
 entries-listed (e ∷ es) p q k f =
-    let h : length (e .response) < 65536 = fits-two e (f .0) in
-    let rest = entries-listed es (p ++ entryBytes e) q (suc k) (f .1) in
-    rw (first-entry p e es q, kind-at p e (entriesBytes es ++ q), response-at p e (entriesBytes es ++ q) h, next-at p e (entriesBytes es ++ q) h)
-    (ap (λ (x : List ℕ). line k (e .kind) (e .response) ++ x) (rw (other-entries p e es q) at rest))
+    let h : length (e .response) < 65536 = fits-two e (f .0 .response-fits) in
+    let rest = entries-listed es (p ++ entryBytes zoned e) q (suc k) (f .1) in
+    rw (
+      first-entry zoned p e es q,
+      response-at zoned p e (entriesBytes zoned es ++ q) h,
+      next-at zoned p e (entriesBytes zoned es ++ q) h,
+      kind-at zoned p e (entriesBytes zoned es ++ q),
+    )
+    (ap (λ (x : List ℕ). line k (e .kind) (e .response) ++ x) (rw (other-entries zoned p e es q) at rest))
 
-module _ (es : List Entry) (card l : List ℕ) (w : LaidOut es card l) where
+module _ (es : List Entry) (card l : List ℕ) (w : LaidOut zoned es card l) where
   pub log-listed : logLines l ≡ lines 0 es ++ cardLines card
   log-listed =
-      rw (count-is es card l w, written-card es card l w, w .same)
-      (ap (λ (x : List ℕ). x ++ cardLines card) (entries-listed es [] (card ++ logTrailer (length (entriesBytes es)) (length es)) 0 (w .fit)))
+      rw (count-is zoned es card l w, written-card zoned es card l w, w .same)
+      (ap (λ (x : List ℕ). x ++ cardLines card) (entries-listed es [] (card ++ logTrailer zoned (length (entriesBytes zoned es)) (length es)) 0 (w .fit)))
 
 -- a card has two lines: seventeen numbers of a digit, and F
 pub tries-line : (c : List ℕ) → length (triesLine (triesOf at88sc1608 c)) ≡ 40
@@ -53,21 +59,22 @@ pub card-lines : (c : List ℕ) → length (cardLines c) ≡ 49
 unfolding cardLines
 card-lines c = let a = length-append (triesLine (triesOf at88sc1608 c)) (fusesLine (at c fuseAt)) in let t = tries-line c in omega arith
 
-lines-length : (es : List Entry) (k : ℕ) → k + length es ≤ 10000 → length (lines k es) ≤ 3 * length (entriesBytes es)
+lines-length : (es : List Entry) (k : ℕ) → k + length es ≤ 10000 → length (lines k es) ≤ 3 * length (entriesBytes zoned es)
 lines-length [] k h = omega arith
 lines-length (e ∷ es) k h =
     let r = lines-length es (suc k) (omega arith) in
-    let a = length-append (entryBytes e) (entriesBytes es) in
-    let b = length-entry e in
+    let a = length-append (entryBytes zoned e) (entriesBytes zoned es) in
+    let b = length-entry zoned e in
+    let m = header-least zoned (e .kind) in
     let c = line-length k (e .kind) (e .response) (omega arith) in
     let d = length-append (line k (e .kind) (e .response)) (lines (suc k) es) in
     omega arith
 
 -- so a text space of three times the log space has room for every listing
-pub listing-length : (es : List Entry) (card l : List ℕ) → LaidOut es card l → length (logLines l) ≤ 3 * length l
+pub listing-length : (es : List Entry) (card l : List ℕ) → LaidOut zoned es card l → length (logLines l) ≤ 3 * length l
 listing-length es card l w =
     let a = lines-length es 0 (let f = w .few in omega arith) in
-    let b = log-length es card l w in
+    let b = log-length zoned es card l w in
     let c = ap length (log-listed es card l w) ∙ length-append (lines 0 es) (cardLines card) in
     let d = card-lines card in
     omega arith

@@ -1,7 +1,7 @@
 // The lines of a listing.
 ghost use mathlib.Core.Path.{_≡_};
 ghost use Prim.Native.Nat.{_+_, _≤_, _<_, _^_};
-ghost use lib.ListN.{length, drop};
+ghost use lib.ListN.{length};
 ghost use Rattle.model.specs.Lists as lists;
 ghost use Rattle.record.specs.RefusalNumber.{refusalNumber};
 ghost use Rattle.text.specs.Put.{Put};
@@ -11,6 +11,7 @@ ghost use Rattle.model.specs.Device.{triesOf};
 ghost use Rattle.model.specs.At88sc1608.{at88sc1608};
 ghost use Rattle.text.specs.Text.{line, triesLine, fusesLine, refusedLine};
 ghost use Rattle.listing.specs.Listing.{linesAt, cardLines, logLines};
+use header::header_length;
 use record::number::get2;
 use record::number::get4;
 use record::refusal::Refusal;
@@ -27,13 +28,13 @@ use text::put_hex;
 use text::put_hexes;
 
 // helper: the line of an entry of a log.
-fn put_line(text: &mut [u8], at: usize, number: usize, entry: &[u8]) -> usize
-    requires { ⌜ (3 ≤ length (now entry)) × (at + length (line number (lists.at (now entry) 0) (drop 3 (now entry))) < 2 ^ 64) ⌝ }
-    ensures { λ r. ⌜ Put (now (text .entry)) at (line number (lists.at (now (entry .entry)) 0) (drop 3 (now (entry .entry)))) (now (text .exit)) r ⌝ }
+fn put_line(text: &mut [u8], at: usize, number: usize, kind: u8, response: &[u8]) -> usize
+    requires { ⌜ at + length (line number kind (now response)) < 2 ^ 64 ⌝ }
+    ensures { λ r. ⌜ Put (now (text .entry)) at (line number kind (now (response .entry))) (now (text .exit)) r ⌝ }
 {
-    let kind = put_decimal(text, at, number);
-    let response = put_hex(text, kind, entry[0]);
-    let last = put_hexes(text, response, &entry[3..]);
+    let second = put_decimal(text, at, number);
+    let third = put_hex(text, second, kind);
+    let last = put_hexes(text, third, response);
     put(text, last, 10)
 }
 
@@ -46,8 +47,10 @@ fn put_entries(text: &mut [u8], log: &[u8], count: usize, end: usize) -> usize
     let mut at = 0;
     let mut i = 0;
     while i < count {
-        let next = at + 3 + get2(log, at + 1);
-        to = put_line(text, to, i, &log[at..next]);
+        let kind = log[at];
+        let from = at + header_length(true, kind);
+        let next = from + get2(log, at + 1);
+        to = put_line(text, to, i, kind, &log[from..next]);
         at = next;
         i += 1;
     }

@@ -4,7 +4,9 @@ ghost use mathlib.Core.Bool.{cond};
 ghost use Prim.Native.Nat.{_+_, _≤_};
 ghost use lib.ListN.{length};
 ghost use Rattle.model.specs.Log as model;
-ghost use Rattle.log.specs.Scan.{Scanned};
+ghost use lib.Dec.{leb};
+ghost use Rattle.log.specs.Scan.{entryEnd, Scanned};
+use header::names_zone;
 use record::kind::both;
 use record::kind::length_fits;
 use record::number::get2;
@@ -26,19 +28,33 @@ fn entry_fits(kind: u8, response: usize) -> bool
     both(is_ignored_kind(kind), response == 0)
 }
 
-// Whether an entry stands at a place and ends by end.
-fn entry_ok(log: &[u8], at: usize, end: usize) -> bool
-    requires { ⌜ (at ≤ end) × (end + 8 ≤ length (now log)) ⌝ }
-    ensures { λ r. ⌜ r ≡ model.entryOk (now (log .entry)) at end ⌝ }
+// A place up to end, or 0 where it is past that.
+fn ended(place: usize, end: usize) -> usize
+    ensures { λ r. ⌜ r ≡ cond (leb place end) place 0 ⌝ }
 {
-    if end < at + 3 {
-        return false;
+    if place <= end {
+        return place;
     }
+    0
+}
+
+// Where the entry at a place ends, which is to be by end; 0 where none stands there.
+fn entry_end(log: &[u8], zoned: bool, at: usize, end: usize) -> usize
+    requires { ⌜ (at ≤ end) × (end + 8 ≤ length (now log)) ⌝ }
+    ensures { λ r. ⌜ r ≡ entryEnd (model.ending zoned) (now (log .entry)) at end ⌝ }
+{
+    let kind = log[at];
     let response = get2(log, at + 1);
-    if !entry_fits(log[at], response) {
-        return false;
+    if !entry_fits(kind, response) {
+        return 0;
     }
-    at + 3 + response <= end
+    if names_zone(zoned, kind) {
+        if 7 < log[at + 3] {
+            return 0;
+        }
+        return ended(at + 4 + response, end);
+    }
+    ended(at + 3 + response, end)
 }
 
 // What a pass over the entries finds: whether they are all well and end at the card, and the place of one of them.
@@ -58,19 +74,20 @@ fn kept(here: bool, at: usize, place: usize) -> usize
 }
 
 // helper: one pass over count entries from the front up to end, which keeps the place of the entry with a number.
-pub fn scan(log: &[u8], count: usize, end: usize, number: usize) -> Entries
+pub fn scan(log: &[u8], zoned: bool, count: usize, end: usize, number: usize) -> Entries
     requires { ⌜ end + 8 ≤ length (now log) ⌝ }
-    ensures { λ r. ⌜ Scanned (now (log .entry)) count end number (r .ok) (r .place) ⌝ }
+    ensures { λ r. ⌜ Scanned (model.ending zoned) (now (log .entry)) count end number (r .ok) (r .place) ⌝ }
 {
     let mut at = 0;
     let mut place = 0;
     let mut i = 0;
     while i < count {
-        if !entry_ok(log, at, end) {
+        let next = entry_end(log, zoned, at, end);
+        if next == 0 {
             return Entries { ok: false, place };
         }
         place = kept(i == number, at, place);
-        at = at + 3 + get2(log, at + 1);
+        at = next;
         i += 1;
     }
     Entries {

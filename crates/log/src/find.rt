@@ -5,7 +5,9 @@ ghost use lib.ListN.{length, take, drop};
 ghost use Rattle.model.specs.Log as model;
 ghost use Rattle.log.specs.Found.{foundOf, Within};
 use crate::check::scan;
+use access::rights::either;
 use access::rights::is_fuse_byte;
+use header::header_length;
 use record::number::get2;
 use record::number::get4;
 use record::refusal::Refusal;
@@ -20,9 +22,9 @@ pub enum Found {
     At(usize, usize),
 }
 
-// Whether the trailer and the card before it are those of a log.
+// Whether the trailer and the card before it are those of a log with one of the two endings.
 fn trailer_ok(log: &[u8]) -> bool
-    ensures { λ r. ⌜ r ≡ model.trailerOk (now (log .entry)) ⌝ }
+    ensures { λ r. ⌜ r ≡ model.trailerOk (model.endingOf (now (log .entry))) (now (log .entry)) ⌝ }
 {
     let length = log.len();
     if length < LEAST_LOG {
@@ -31,7 +33,8 @@ fn trailer_ok(log: &[u8]) -> bool
     if log[length - 2] != 76 {
         return false;
     }
-    if log[length - 1] != 79 {
+    let last = log[length - 1];
+    if !either(last == 80, last == 79) {
         return false;
     }
     if MOST_RECORDS < get2(log, length - 4) {
@@ -44,6 +47,17 @@ fn trailer_ok(log: &[u8]) -> bool
     is_fuse_byte(log[offset + FUSES])
 }
 
+// helper: where the response of the entry at a place lies.
+fn response_at(log: &[u8], zoned: bool, place: usize) -> Found
+    requires { ⌜ place + 4 ≤ length (now log) ⌝ }
+    ensures { λ r. ⌜ foundOf r ≡ model.located (model.responseAt (model.ending zoned) (now (log .entry)) place) (model.lengthAt (now (log .entry)) place) ⌝ }
+{
+    Found::At(
+        place + header_length(zoned, log[place]),
+        get2(log, place + 1),
+    )
+}
+
 // Where answer number lies, from 0. The whole log is checked for every number.
 pub fn find(log: &[u8], number: usize) -> Found
     ensures { λ r. ⌜ foundOf r ≡ model.find (now (log .entry)) number ⌝ }
@@ -54,15 +68,15 @@ pub fn find(log: &[u8], number: usize) -> Found
     let length = log.len();
     let count = get2(log, length - 4);
     let end = get4(log, length - TRAILER);
-    let scanned = scan(log, count, end, number);
+    let zoned = log[length - 1] == 80;
+    let scanned = scan(log, zoned, count, end, number);
     if !scanned.ok {
         return Found::Refused(Refusal::NotALog);
     }
     if count <= number {
         return Found::Refused(Refusal::NoSuchAnswer);
     }
-    let place = scanned.place;
-    Found::At(place + 3, get2(log, place + 1))
+    response_at(log, zoned, scanned.place)
 }
 
 // The part of a log between two places.

@@ -26,3 +26,4 @@ pub mod Mistakes
 pub mod Attempts
 pub mod ClosedBytes
 pub mod BusyCards
+pub mod NamedZones

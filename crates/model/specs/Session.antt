@@ -7,11 +7,11 @@ use lib.ListN.{length, take, drop}
 use Rattle.model.specs.Sizes.{cardSize, fuseAt, trailerSize, leastSession, greatestSession, leastLog, mostRecords}
 use Rattle.model.specs.Lists.{at}
 use Rattle.model.specs.Numbers.{numberAt}
-use Rattle.model.specs.Instruction.{Instruction}
+use Rattle.model.specs.Instruction.{Instruction, kindOf}
 use Rattle.model.specs.Busy.{State, powerOn, answeredKind}
 use Rattle.model.specs.Call.{Powered, powered, Decoded, refused, whole}
 use Rattle.model.specs.Refusal.{sessionLength, sessionTrailer, startOutOfRange, tooManyRecords, fuseByte, bytesLeft, noSpace}
-use Rattle.model.specs.Log.{Entry, logBytes}
+use Rattle.model.specs.Log.{Entry, zoned, headerLength, logBytes}
 use Rattle.model.specs.Reader.{recordsEnd, nextOf}
 use Rattle.model.specs.Single.{isFuseByte, perform, act}
 
@@ -76,9 +76,14 @@ readFrom (suc n) s i = onDecoded (nextOf s i) stopped (λ k m. more k (readFrom 
 
 -- ---- the run
 
--- what a record logs, and what it leaves
+-- what a record logs, its zone being the one that it meets, and what it leaves
 abbrev pub logged : Powered State → Instruction → Entry
-logged m k = record { kind = answeredKind (m .state) k; response = act (m .card) (m .state) k .report .answer }
+logged m k =
+    record {
+      kind = answeredKind (m .state) k;
+      zone = m .state .volatile .zone;
+      response = act (m .card) (m .state) k .report .answer;
+    }
 
 abbrev pub after : Powered State → Instruction → Powered State
 after m k = powered (act (m .card) (m .state) k .card) (act (m .card) (m .state) k .report .state)
@@ -96,12 +101,12 @@ abbrev pub initial : List ℕ → Powered State
 initial s = powered (cardOf s) powerOn
 
 abbrev pub logOf : List ℕ → List Instruction → List ℕ
-logOf s ks = logBytes (entriesOf ks (initial s)) (endOf ks (initial s) .card)
+logOf s ks = logBytes zoned (entriesOf ks (initial s)) (endOf ks (initial s) .card)
 
--- how long the entries would be if every record were answered in full, an ignored one as if it were not ignored
+-- how long the entries would be if every record were answered in full, an ignored one as if it were not ignored; zones are named in them
 abbrev pub fullEntries : List Instruction → Powered State → ℕ
 fullEntries [] m = 0
-fullEntries (k ∷ ks) m = 3 + length (perform (m .card) (m .state) k .report .answer) + fullEntries ks (after m k)
+fullEntries (k ∷ ks) m = headerLength zoned (kindOf k) + length (perform (m .card) (m .state) k .report .answer) + fullEntries ks (after m k)
 
 -- ---- what a session gives back and leaves: the refusal's number or 0, the log's length, the whole log space
 

@@ -12,7 +12,7 @@ use Rattle.model.specs.Instruction.{Instruction, poll}
 use Rattle.model.specs.Call.{Powered, Called, replying}
 use Rattle.model.specs.Reader.{recordsEnd, partAt}
 use Rattle.model.specs.Record.{recordLength}
-use Rattle.model.specs.Log.{entryPlace}
+use Rattle.model.specs.Log.{Entry, placeOf}
 use Rattle.model.specs.Session.{startOf, countOf, frame, all, readFrom, endOf, initial, fullEntries, Ran}
 
 -- ---- the session
@@ -50,9 +50,16 @@ reached ks m k = endOf (take k ks) m
 abbrev pub recordAt : List ℕ → ℕ → List ℕ
 recordAt s i = take (recordLength (partAt s i)) (partAt s i)
 
--- the kind byte of answer k of a log
+-- the kind byte of answer k of a log, and the byte behind the response's length, which is the zone where the kind names it
 abbrev pub kindIn : List ℕ → ℕ → ℕ
-kindIn l k = at l (entryPlace k l 0)
+kindIn l k = at l (placeOf l k)
+
+abbrev pub zoneIn : List ℕ → ℕ → ℕ
+zoneIn l k = at l (placeOf l k + 3)
+
+-- entry k of a list
+abbrev pub entryOf : List Entry → ℕ → Entry
+entryOf es k = getD es k (record { kind = 0; zone = 0; response = [] })
 
 -- what a single command leaves that answers as a kind, gives a response and hands out tries
 abbrev pub leaving : (kind tries : ℕ) → Powered State → (answer space : List ℕ) → Called State

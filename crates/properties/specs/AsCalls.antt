@@ -37,12 +37,13 @@ abbrev pub callsFrom : ℕ → List ℕ → ℕ → List Call
 callsFrom zero s i = []
 callsFrom (suc n) s i = callAt s i ∷ callsFrom n s (i + recordLength (partAt s i))
 
--- the entries of replies, the tries that they hand out, the states that they leave
-abbrev pub entryFrom : Reply State → Entry
-entryFrom r = record { kind = r .kind; response = take (r .size) (r .space) }
+-- the entries of replies, each with the zone that the reply before it left, the tries that they hand out, the states that they leave
+abbrev pub entryFrom : ℕ → Reply State → Entry
+entryFrom zone r = record { kind = r .kind; zone = zone; response = take (r .size) (r .space) }
 
-abbrev pub entriesFrom : List (Reply State) → List Entry
-entriesFrom rs = map entryFrom rs
+abbrev pub entriesFrom : ℕ → List (Reply State) → List Entry
+entriesFrom zone [] = []
+entriesFrom zone (r ∷ rs) = entryFrom zone r ∷ entriesFrom (r .state .volatile .zone) rs
 
 abbrev pub triesFrom : List (Reply State) → List ℕ
 triesFrom rs = map (λ r. r .tries) rs
@@ -70,10 +71,11 @@ module _ (s : List ℕ) (i : ℕ) (k : Instruction) (n : ℕ) (e : decode (partA
   pub steps : step check decode act answeredKind m (callAt s i) ≡ after m k
   steps = rw does
 
-  pub enters : entryFrom (command (m .card) (m .state) (callAt s i) .reply) ≡ logged m k
+  pub enters : entryFrom (m .state .volatile .zone) (command (m .card) (m .state) (callAt s i) .reply) ≡ logged m k
   enters =
       rw does
-      (ap (λ (r : List ℕ). record { kind = answeredKind (m .state) k; response = r }) (take-append-seam (act (m .card) (m .state) k .report .answer) _))
+      (ap (λ (r : List ℕ). record { kind = answeredKind (m .state) k; zone = m .state .volatile .zone; response = r })
+      (take-append-seam (act (m .card) (m .state) k .report .answer) _))
 
   pub hands : command (m .card) (m .state) (callAt s i) .reply .tries ≡ act (m .card) (m .state) k .report .tries
   hands = rw does
@@ -95,7 +97,7 @@ module _ (s : List ℕ) (i : ℕ) (k : Instruction) (n : ℕ) (e : decode (partA
 -- what the calls of a session's records do
 pub record Same (xs : List Call) (ks : List Instruction) (m : Powered State) : Type 1 where
   pub ends : final xs m ≡ endOf ks m
-  pub entries : entriesFrom (replies xs m) ≡ entriesOf ks m
+  pub entries : entriesFrom (m .state .volatile .zone) (replies xs m) ≡ entriesOf ks m
   pub tries : triesFrom (replies xs m) ≡ triesIn ks m
   pub states : statesFrom (replies xs m) ≡ statesIn ks m
   pub along : (Ok : Instruction → Type 0) → Every Ok ks → Along check decode act answeredKind (λ c s k. Ok k) xs m
@@ -115,7 +117,8 @@ as-calls (suc n) s i ks j e m g =
     (record {
       ends = ap (final (callsFrom n s (i + recordLength (partAt s i)))) st ∙ r .ends;
       entries = λ t. enters s i k (f .size) (f .next) m g t
-          ∷ (ap (λ (x : Powered State). entriesFrom (replies (callsFrom n s (i + recordLength (partAt s i))) x)) st ∙ r .entries) t;
+          ∷ ((λ u. entriesFrom (moves s i k (f .size) (f .next) m g u .volatile .zone) (replies (callsFrom n s (i + recordLength (partAt s i))) (st u)))
+          ∙ r .entries) t;
       tries = λ t. hands s i k (f .size) (f .next) m g t
           ∷ (ap (λ (x : Powered State). triesFrom (replies (callsFrom n s (i + recordLength (partAt s i))) x)) st ∙ r .tries) t;
       states = λ t. moves s i k (f .size) (f .next) m g t

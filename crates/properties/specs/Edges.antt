@@ -9,7 +9,7 @@ use lib.ListN.{length, length-append, List·getD-append}
 use lib.Seq.{getD-append-add, take-at}
 use Rattle.model.specs.Sizes.{cardSize, fuseAt, leastSession}
 use Rattle.model.specs.Lists.{at}
-use Rattle.model.specs.Log.{logTrailer}
+use Rattle.model.specs.Log.{zoned, logTrailer}
 use Rattle.model.specs.Numbers.{bytesOf}
 use Rattle.laws.specs.NumberLaws.{number-append}
 use Rattle.model.specs.Refusal.{sessionLength}
@@ -23,7 +23,7 @@ unfolding run frame
 short-rejected s space h = rw (lt-leb _ _ h)
 
 pub empty-log : (card space : List ℕ) → length card ≡ cardSize → isFuseByte (at card fuseAt) ≡ true → leastSession ≤ length space
-    → run (empty card) space ≡ accepting (card ++ logTrailer 0 0) space
+    → run (empty card) space ≡ accepting (card ++ logTrailer zoned 0 0) space
 empty-log card space l f h =
     accepted-log s space []
     (record {
@@ -31,7 +31,7 @@ empty-log card space l f h =
       reads = rw (count, start, long);
       room = h;
     })
-    ∙ ap (λ (c : List ℕ). accepting (c ++ logTrailer 0 0) space) (take-at card tail cardSize l)
+    ∙ ap (λ (c : List ℕ). accepting (c ++ logTrailer zoned 0 0) space) (take-at card tail cardSize l)
   where
     tail : List ℕ
     tail = bytesOf 4 cardSize ++ (bytesOf 2 0 ++ (0x53 ∷ 0x45 ∷ []))

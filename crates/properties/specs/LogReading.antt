@@ -1,29 +1,66 @@
--- The log reader accepts exactly the paper's layout, and the log of an accepted session reads back: every answer that was written, and
--- the final card ("Session and log").
+-- The log reader accepts exactly the paper's two layouts, each by its ending, and the log of an accepted session reads back: every
+-- answer that was written, its kind and its zone, and the final card ("Session and log", "The zone named in the log").
 use Prim.Native.Nat.{ℕ, _≤_, _<_}
-use mathlib.Core.Bool.{true}
+use mathlib.Core.Bool.{Bool, true}
 use mathlib.Core.List.{List}
 use mathlib.Core.Logic.{_↔_}
 use mathlib.Core.Path.{_≡_}
-use lib.ListN.{take, drop}
+use lib.ListN.{length, take, drop}
 use Rattle.model.specs.Sizes.{cardSize}
 use Rattle.model.specs.Lists.{Bytes}
-use Rattle.model.specs.Instruction.{Instruction}
-use Rattle.model.specs.Log.{Entry, LaidOut, valid, find, missing, answerIn}
+use Rattle.model.specs.At88sc1608.{at88sc1608}
+use Rattle.model.specs.Busy.{State, answeredKind}
+use Rattle.model.specs.Call.{Powered}
+use Rattle.model.specs.Instruction.{Instruction, kindOf}
+use Rattle.laws.specs.EntryLaws.{answered-names, named-keeps}
+use Rattle.model.specs.Log.{Ending, ending, endingOf, zoned, namesZone, Entry, entryBytes, Fits, LaidOut, validAs, valid, find, missing, answerIn}
 use Rattle.model.specs.Log as log
 use Rattle.model.specs.Refusal.{noSuchAnswer}
-use Rattle.model.specs.Session.{countOf, logged, endOf, initial, logOf}
-use Rattle.properties.specs.AcceptedSession.{Accepts, instructionAt, reached, kindIn}
-use Rattle.properties.specs.Layout.{exactly}
-use Rattle.properties.specs.ReadBack.{valid-back, count-back, kind-back, answer-back, none-back, card-back}
+use Rattle.model.specs.Session.{countOf, logged, after, endOf, initial, logOf}
+use Rattle.properties.specs.AcceptedSession.{Accepts, instructionAt, reached, kindIn, zoneIn, entryOf}
+use Rattle.properties.specs.Written.{entry-most, written-answer, written-kind, written-zone}
+use Rattle.properties.specs.Layout.{exactly-as, exactly}
+use Rattle.properties.specs.ReadBack.{ending-back, valid-back, count-back, kind-back, zone-back, answer-back, none-back, card-back}
 
--- a log of bytes is accepted exactly when it is the writing of some entries within the limits, a card and the trailer
-pub accepted-iff : (l : List ℕ) → Bytes l → (valid l ≡ true) ↔ ((es : List Entry) × (card : List ℕ) × LaidOut es card l)
+-- a log of bytes is accepted exactly when it is the writing, with one of the two endings, of some entries within the limits, a card and
+-- the trailer
+pub accepted-iff : (l : List ℕ) → Bytes l → (valid l ≡ true) ↔ ((z : Bool) × (es : List Entry) × (card : List ℕ) × LaidOut (ending z) es card l)
 accepted-iff = exactly
+
+-- and so under each ending by itself
+pub accepted-as-iff : (E : Ending) (l : List ℕ) → Bytes l → (validAs E l ≡ true) ↔ ((es : List Entry) × (card : List ℕ) × LaidOut E es card l)
+accepted-as-iff = exactly-as
+
+-- an entry within the limits has at most 260 bytes
+pub entry-at-most : (E : Ending) (e : Entry) → Fits E e → length (entryBytes E e) ≤ 260
+entry-at-most = entry-most
+
+-- of a log that is laid out so, with either ending: answer k is the response of entry k, and its kind and its zone, where it is named,
+-- are those of entry k
+module _ (z : Bool) (es : List Entry) (card l : List ℕ) (w : LaidOut (ending z) es card l) (k : ℕ) (h : k < length es) where
+  pub laid-answer : answerIn l (find l k) ≡ entryOf es k .response
+  laid-answer = written-answer z es card l w k h
+
+  pub laid-kind : kindIn l k ≡ entryOf es k .kind
+  laid-kind = written-kind z es card l w k h
+
+  pub laid-zone : ending z .names (entryOf es k .kind) ≡ true → zoneIn l k ≡ entryOf es k .zone
+  laid-zone = written-zone z es card l w k h
+
+-- a record names the zone by its own kind, ignored or not, and leaves it selected, so the zone before it is the zone after it
+pub names-either-way : (s : State) (k : Instruction) → namesZone (answeredKind s k) ≡ namesZone (kindOf k)
+names-either-way = answered-names
+
+pub zone-stays : (m : Powered State) (k : Instruction) → namesZone (kindOf k) ≡ true → after m k .state .volatile .zone ≡ m .state .volatile .zone
+zone-stays m k = named-keeps at88sc1608 (m .card) (m .state) k
 
 -- a session of bytes that is accepted with the instructions ks
 module _ (s space : List ℕ) (ks : List Instruction) (bytes : Bytes s) (a : Accepts s space ks) where
-  -- its log is accepted
+  -- its log has the ending under which zones are named
+  pub log-ending : endingOf (logOf s ks) ≡ zoned
+  log-ending = ending-back s space ks bytes a
+
+  -- it is accepted
   pub log-valid : valid (logOf s ks) ≡ true
   log-valid = valid-back s space ks bytes a
 
@@ -39,6 +76,11 @@ module _ (s space : List ℕ) (ks : List Instruction) (bytes : Bytes s) (a : Acc
   -- its kind is that of record k, or that plus 128 where it was ignored
   pub log-kind : (k : ℕ) → k < countOf s → kindIn (logOf s ks) k ≡ logged (reached ks (initial s) k) (instructionAt ks k) .kind
   log-kind = kind-back s space ks bytes a
+
+  -- where the kind names the zone, it is the zone that was selected before record k
+  pub log-zone : (k : ℕ) → k < countOf s → namesZone (kindIn (logOf s ks) k) ≡ true
+      → zoneIn (logOf s ks) k ≡ reached ks (initial s) k .state .volatile .zone
+  log-zone = zone-back s space ks bytes a
 
   -- and there is no other
   pub log-none : (k : ℕ) → countOf s ≤ k → find (logOf s ks) k ≡ missing noSuchAnswer

@@ -2,7 +2,7 @@
 use Prim.Native.Nat.{ℕ, zero, suc, _+_, _-_, _≤_, _<_}
 use mathlib.Core.Bool.{Bool, true, false}
 use mathlib.Core.List.{List, [], _∷_}
-use mathlib.Core.Path.{_≡_, refl, _∙_}
+use mathlib.Core.Path.{_≡_, refl, ap, _∙_}
 use native.Mathlib.Nat.{le-of-suc-le-suc}
 use native.Mathlib.Omega.{arith}
 use borrow.Author.Tests.{ltb-true, ltb-false}
@@ -14,30 +14,25 @@ use Rattle.model.specs.Lists.{at, Bytes}
 use Rattle.model.specs.Busy.{State}
 use Rattle.model.specs.Instruction.{Instruction}
 use Rattle.model.specs.Call.{Powered}
-use Rattle.model.specs.Log.{LaidOut, valid, find, missing, answerIn}
+use Rattle.model.specs.Log.{endingOf, zoned, namesZone, Entry, LaidOut, valid, find, missing, answerIn}
 use Rattle.model.specs.Log as log
 use Rattle.model.specs.Reader.{recordsEnd, partAt}
 use Rattle.laws.specs.RecordLaws.{Ranged, decode-ranged}
 use Rattle.model.specs.Refusal.{noSuchAnswer}
 use Rattle.laws.specs.Sane.{Good}
 use Rattle.model.specs.Session.{startOf, countOf, logged, after, entriesOf, endOf, logOf, initial}
-use Rattle.properties.specs.Written.{kindOfEntry, responseOf, written-valid, written-kind, written-answer, written-none, written-card, count-is}
+use Rattle.properties.specs.Written.{count-is, written-ending, written-valid, written-kind, written-zone, written-answer, written-none}
+use Rattle.properties.specs.Written.{written-card}
 use Rattle.properties.specs.SessionLaws.{Logs, decode-logs, Readings, readings, end-good, entries-length, entries-fit}
-use Rattle.properties.specs.AcceptedSession.{Accepts, reached, instructionAt, kindIn}
+use Rattle.properties.specs.AcceptedSession.{Accepts, reached, instructionAt, kindIn, zoneIn, entryOf}
 use Rattle.properties.specs.AcceptedSessionLaws.{Framed, framed-well, card-good}
 
 -- what instruction k logs
-pub kind-is : (ks : List Instruction) (m : Powered State) (k : ℕ) → k < length ks
-    → kindOfEntry (entriesOf ks m) k ≡ logged (reached ks m k) (instructionAt ks k) .kind
-kind-is [] m k h = absurd (let z : ⊥ = omega arith in z)
-kind-is (x ∷ ks) m zero h = refl
-kind-is (x ∷ ks) m (suc k) h = kind-is ks (after m x) k (le-of-suc-le-suc h)
-
-pub response-is : (ks : List Instruction) (m : Powered State) (k : ℕ) → k < length ks
-    → responseOf (entriesOf ks m) k ≡ logged (reached ks m k) (instructionAt ks k) .response
-response-is [] m k h = absurd (let z : ⊥ = omega arith in z)
-response-is (x ∷ ks) m zero h = refl
-response-is (x ∷ ks) m (suc k) h = response-is ks (after m x) k (le-of-suc-le-suc h)
+pub entry-is : (ks : List Instruction) (m : Powered State) (k : ℕ) → k < length ks
+    → entryOf (entriesOf ks m) k ≡ logged (reached ks m k) (instructionAt ks k)
+entry-is [] m k h = absurd (let z : ⊥ = omega arith in z)
+entry-is (x ∷ ks) m zero h = refl
+entry-is (x ∷ ks) m (suc k) h = entry-is ks (after m x) k (le-of-suc-le-suc h)
 
 -- ---- an accepted session of bytes
 
@@ -68,36 +63,52 @@ module _ (s space : List ℕ) (ks : List Instruction) (bytes : Bytes s) (a : Acc
   pub final-good : Good (endOf ks (initial s) .card) (endOf ks (initial s) .state)
   final-good = end-good ks (initial s) (all-ranged .every) (card-good s framed)
 
-  pub laid-out : LaidOut (entriesOf ks (initial s)) (endOf ks (initial s) .card) (logOf s ks)
+  abbrev es : List Entry
+  es = entriesOf ks (initial s)
+
+  abbrev card : List ℕ
+  card = endOf ks (initial s) .card
+
+  pub laid-out : LaidOut zoned es card (logOf s ks)
   laid-out =
       record {
         few = rw (entries-length ks (initial s), all-ranged .number) (framed .few);
-        fit = entries-fit ks (initial s) (all-logs .every);
+        fit = entries-fit ks (initial s) (all-logs .every) (all-ranged .every) (card-good s framed);
         long = final-good .fit .long;
         stage = final-good .fit .stage;
         same = refl;
       }
 
+  pub ending-back : endingOf (logOf s ks) ≡ zoned
+  ending-back = written-ending true es card (logOf s ks) laid-out
+
   pub valid-back : valid (logOf s ks) ≡ true
-  valid-back = written-valid (entriesOf ks (initial s)) (endOf ks (initial s) .card) (logOf s ks) laid-out
+  valid-back = written-valid true es card (logOf s ks) laid-out
 
   pub count-back : log.countOf (logOf s ks) ≡ countOf s
-  count-back = count-is (entriesOf ks (initial s)) (endOf ks (initial s) .card) (logOf s ks) laid-out ∙ entries-length ks (initial s) ∙ all-ranged .number
+  count-back = count-is zoned es card (logOf s ks) laid-out ∙ entries-length ks (initial s) ∙ all-ranged .number
 
-  pub answer-back : (k : ℕ) → k < countOf s
-      → answerIn (logOf s ks) (find (logOf s ks) k) ≡ logged (reached ks (initial s) k) (instructionAt ks k) .response
-  answer-back k h =
-      written-answer (entriesOf ks (initial s)) (endOf ks (initial s) .card) (logOf s ks) laid-out k (rw (entries-length ks (initial s), all-ranged .number) h)
-      ∙ response-is ks (initial s) k (rw (all-ranged .number) h)
+  -- record k is one of the entries, and what it logs is the entry with its number
+  module _ (k : ℕ) (h : k < countOf s) where
+    counted : k < length es
+    counted = rw (entries-length ks (initial s), all-ranged .number) h
 
-  pub kind-back : (k : ℕ) → k < countOf s → kindIn (logOf s ks) k ≡ logged (reached ks (initial s) k) (instructionAt ks k) .kind
-  kind-back k h =
-      written-kind (entriesOf ks (initial s)) (endOf ks (initial s) .card) (logOf s ks) laid-out k (rw (entries-length ks (initial s), all-ranged .number) h)
-      ∙ kind-is ks (initial s) k (rw (all-ranged .number) h)
+    entry-back : entryOf es k ≡ logged (reached ks (initial s) k) (instructionAt ks k)
+    entry-back = entry-is ks (initial s) k (rw (all-ranged .number) h)
+
+    pub answer-back : answerIn (logOf s ks) (find (logOf s ks) k) ≡ logged (reached ks (initial s) k) (instructionAt ks k) .response
+    answer-back = written-answer true es card (logOf s ks) laid-out k counted ∙ ap (λ (e : Entry). e .response) entry-back
+
+    pub kind-back : kindIn (logOf s ks) k ≡ logged (reached ks (initial s) k) (instructionAt ks k) .kind
+    kind-back = written-kind true es card (logOf s ks) laid-out k counted ∙ ap (λ (e : Entry). e .kind) entry-back
+
+    pub zone-back : namesZone (kindIn (logOf s ks) k) ≡ true → zoneIn (logOf s ks) k ≡ reached ks (initial s) k .state .volatile .zone
+    zone-back n =
+        written-zone true es card (logOf s ks) laid-out k counted (rw (← (written-kind true es card (logOf s ks) laid-out k counted)) n)
+        ∙ ap (λ (e : Entry). e .zone) entry-back
 
   pub none-back : (k : ℕ) → countOf s ≤ k → find (logOf s ks) k ≡ missing noSuchAnswer
-  none-back k h =
-      written-none (entriesOf ks (initial s)) (endOf ks (initial s) .card) (logOf s ks) laid-out k (rw (entries-length ks (initial s), all-ranged .number) h)
+  none-back k h = written-none true es card (logOf s ks) laid-out k (rw (entries-length ks (initial s), all-ranged .number) h)
 
   pub card-back : take cardSize (drop (log.offsetOf (logOf s ks)) (logOf s ks)) ≡ endOf ks (initial s) .card
-  card-back = written-card (entriesOf ks (initial s)) (endOf ks (initial s) .card) (logOf s ks) laid-out
+  card-back = written-card zoned es card (logOf s ks) laid-out

@@ -9,7 +9,7 @@ use lib.ListN.{length}
 use Rattle.model.specs.Sizes.{cardSize, fuseAt, leastSession}
 use Rattle.model.specs.Lists.{at}
 use Rattle.model.specs.Instruction.{Instruction}
-use Rattle.model.specs.Log.{logTrailer}
+use Rattle.model.specs.Log.{zoned, logTrailer}
 use Rattle.model.specs.Refusal.{sessionLength}
 use Rattle.model.specs.Session.{logOf, rejected, run}
 use Rattle.model.specs.Single.{isFuseByte}
@@ -44,5 +44,5 @@ module _ (s space : List ℕ) where
 
 -- a card and a trailer that counts no records log the card and a trailer that counts no answers
 pub nothing-run : (card space : List ℕ) → length card ≡ cardSize → isFuseByte (at card fuseAt) ≡ true → leastSession ≤ length space
-    → run (empty card) space ≡ accepting (card ++ logTrailer 0 0) space
+    → run (empty card) space ≡ accepting (card ++ logTrailer zoned 0 0) space
 nothing-run = empty-log

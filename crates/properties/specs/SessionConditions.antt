@@ -6,6 +6,8 @@ use mathlib.Core.List.{List, [], _∷_, _++_}
 use lib.Dec.{ltb, eqb}
 use lib.ListN.{length}
 use Rattle.model.specs.Sizes.{leastLog}
+use Rattle.model.specs.Lists.{at}
+use Rattle.model.specs.Log.{zoned, headerLength}
 use Rattle.model.specs.Reader.{recordsEnd, partAt}
 use Rattle.model.specs.Record.{recordLength}
 use Rattle.model.specs.Refusal.{sessionLength, sessionTrailer, startOutOfRange, tooManyRecords, fuseByte, bytesLeft, noSpace}
@@ -32,10 +34,10 @@ abbrev pub recordsConditions : ℕ → List ℕ → ℕ → List Condition
 recordsConditions zero s i = []
 recordsConditions (suc n) s i = recordConditions (partAt s i) ++ recordsConditions n s (i + recordLength (partAt s i))
 
--- how long the entries of n records are, each answered in full, with three bytes before its response
+-- how long the entries of n records are, each answered in full, with its header before the response
 abbrev pub fullLength : ℕ → List ℕ → ℕ → ℕ
 fullLength zero s i = 0
-fullLength (suc n) s i = 3 + responseLength (partAt s i) + fullLength n s (i + recordLength (partAt s i))
+fullLength (suc n) s i = headerLength zoned (at (partAt s i) 0) + responseLength (partAt s i) + fullLength n s (i + recordLength (partAt s i))
 
 -- the log so: the entries, the card, the trailer
 abbrev pub logLength : List ℕ → ℕ

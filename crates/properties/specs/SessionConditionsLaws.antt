@@ -8,10 +8,11 @@ use lib.Dec.{ltb, eqb}
 use lib.ListN.{length}
 use Rattle.model.specs.Sizes.{leastLog}
 use Rattle.model.specs.Instruction.{Instruction}
+use Rattle.model.specs.Log.{zoned, headerLength}
 use Rattle.model.specs.Call.{Decoded, refused, whole}
 use Rattle.model.specs.Reader.{recordsEnd, partAt, nextOf}
 use Rattle.model.specs.Record.{recordLength}
-use Rattle.laws.specs.RecordLaws.{accepted}
+use Rattle.laws.specs.RecordLaws.{accepted, decode-kind}
 use Rattle.model.specs.Refusal.{bytesLeft, noSpace}
 use Rattle.model.specs.Session.{startOf, countOf, wrongLength, wrongTrailer, wrongStart, wrongCount, wrongFuses, frame, framed, run}
 use Rattle.model.specs.Session.{Read, stopped, all, onDecoded, more, readFrom, logOf, fullEntries, rejected, ended, initial}
@@ -41,7 +42,8 @@ records-clean (suc n) s i ks j e =
       none = λ d. first-append (recordConditions (partAt s i)) (recordsConditions n s (i + recordLength (partAt s i))) d
           ∙ first-record (partAt s i) _ _ (f .next) ∙ ap (λ (m : ℕ). first (recordsConditions n s (i + m)) d) l ∙ r .none d;
       place = rw l (r .place);
-      entries = rw (l, decode-answer (partAt s i) (f .command) (f .size) (f .next), r .entries);
+      entries = rw l (λ t. headerLength zoned (decode-kind (partAt s i) (f .command) (f .size) (f .next) t)
+          + decode-answer (partAt s i) (f .command) (f .size) (f .next) t + r .entries t);
     })
 
 -- records of which one is refused

@@ -14,15 +14,17 @@ use Rattle.model.specs.Instruction.{Instruction, kindOf}
 use Rattle.model.specs.Call.{Powered, Decoded, refused, whole}
 use Rattle.model.specs.At88sc1608.{at88sc1608}
 use Rattle.laws.specs.BusyLaws.{fullAnswer, full-answer, givenAnswer, given-answer, given-most}
-use Rattle.model.specs.Log.{entriesBytes, entryFits, AllFit}
+use Rattle.laws.specs.EntryLaws.{fullEntry, answered-header}
+use Rattle.model.specs.Log.{zoned, namesZone, headerLength, entryBytes, entriesBytes, entryFits, zoneFits, AllFit}
 use Rattle.model.specs.Reader.{recordsEnd, nextOf}
 use Rattle.laws.specs.ReaderLaws.{next-within}
 use Rattle.model.specs.Record.{kinds, known, inRange, dataLength, made, dataAt, recordLength, decode, lengthFits}
 use Rattle.laws.specs.KindLaws.{each-kind}
 use Rattle.laws.specs.RecordLaws.{accepted, Ranged}
-use Rattle.laws.specs.Sane.{Good, act-length, good-after}
-use Rattle.model.specs.Session.{Read, stopped, all, onDecoded, more, readFrom, after, entriesOf, endOf, fullEntries}
+use Rattle.laws.specs.Sane.{Good, act-length, good-after, zone-below}
+use Rattle.model.specs.Session.{Read, stopped, all, onDecoded, more, readFrom, logged, after, entriesOf, endOf, fullEntries}
 use Rattle.properties.specs.AcceptedSession.{Every}
+use Rattle.properties.specs.Written.{length-entry}
 
 -- ---- one record
 
@@ -99,6 +101,11 @@ logged-fits s k l = go (ignores s k) refl
         (or-true (known (kindOf k + 128) && lengthFits (kindOf k + 128) 0))
     go false e = rw (l .0, l .1)
 
+-- a zone that can be selected is taken
+selected-fits : (kind z : ℕ) → z < 8 → zoneFits zoned kind z ≡ true
+unfolding zoneFits
+selected-fits kind z h = rw (le-leb z 7 (omega arith)) (or-true (not (namesZone kind)))
+
 -- ---- the records of a session
 
 -- the first of them, and the others behind it
@@ -161,9 +168,15 @@ pub entries-length : (ks : List Instruction) (m : Powered State) → length (ent
 entries-length [] m = refl
 entries-length (k ∷ ks) m = ap suc (entries-length ks (after m k))
 
-pub entries-fit : (ks : List Instruction) (m : Powered State) → Every Logs ks → AllFit (entriesOf ks m)
-entries-fit [] m f = tt
-entries-fit (k ∷ ks) m f = (rw (given-answer at88sc1608 (m .card) (m .state) k) (logged-fits (m .state) k (f .0)), entries-fit ks (after m k) (f .1))
+pub entries-fit : (ks : List Instruction) (m : Powered State) → Every Logs ks → Every Ranged ks → Good (m .card) (m .state) → AllFit zoned (entriesOf ks m)
+entries-fit [] m f r g = tt
+entries-fit (k ∷ ks) m f r g = (
+  record {
+    response-fits = rw (given-answer at88sc1608 (m .card) (m .state) k) (logged-fits (m .state) k (f .0));
+    zone-fits = selected-fits (answeredKind (m .state) k) (m .state .volatile .zone) (zone-below (m .card) (m .state) g);
+  },
+  entries-fit ks (after m k) (f .1) (r .1) (good-after (m .card) (m .state) k (r .0) g),
+)
 
 -- ---- lengths
 
@@ -171,24 +184,26 @@ pub end-length : (ks : List Instruction) (m : Powered State) → length (endOf k
 end-length [] m = refl
 end-length (k ∷ ks) m = end-length ks (after m k) ∙ act-length (m .card) (m .state) k
 
--- an entry is as long as its instruction's answer, and three bytes
-pub entry-length : (k : Instruction) (ks : List Instruction) (m : Powered State)
-    → length (entriesBytes (entriesOf (k ∷ ks) m)) ≡ 3 + givenAnswer at88sc1608 (m .state) k + length (entriesBytes (entriesOf ks (after m k)))
-entry-length k ks m = simp (length-append, given-answer at88sc1608 (m .card) (m .state) k) (omega arith)
+-- an entry is as long as its header, which ignoring does not change, and its instruction's answer
+pub entry-length : (m : Powered State) (k : Instruction)
+    → length (entryBytes zoned (logged m k)) ≡ headerLength zoned (kindOf k) + givenAnswer at88sc1608 (m .state) k
+entry-length m k =
+    length-entry zoned (logged m k) ∙ (λ i. answered-header (m .state) k i + given-answer at88sc1608 (m .card) (m .state) k i)
 
 -- the entries in full: their length depends on the instructions alone, and those that are written are not longer
 abbrev pub fullTotal : List Instruction → ℕ
 fullTotal [] = 0
-fullTotal (k ∷ ks) = 3 + fullAnswer at88sc1608 k + fullTotal ks
+fullTotal (k ∷ ks) = fullEntry k + fullTotal ks
 
 pub full-total : (ks : List Instruction) (m : Powered State) → fullEntries ks m ≡ fullTotal ks
 full-total [] m = refl
-full-total (k ∷ ks) m = λ i. 3 + full-answer at88sc1608 (m .card) (m .state) k i + full-total ks (after m k) i
+full-total (k ∷ ks) m = λ i. headerLength zoned (kindOf k) + full-answer at88sc1608 (m .card) (m .state) k i + full-total ks (after m k) i
 
-pub entries-most : (ks : List Instruction) (m : Powered State) → length (entriesBytes (entriesOf ks m)) ≤ fullTotal ks
+pub entries-most : (ks : List Instruction) (m : Powered State) → length (entriesBytes zoned (entriesOf ks m)) ≤ fullTotal ks
 entries-most [] m = omega arith
 entries-most (k ∷ ks) m =
-    let e = entry-length k ks m in
+    let a = length-append (entryBytes zoned (logged m k)) (entriesBytes zoned (entriesOf ks (after m k))) in
+    let e = entry-length m k in
     let g = given-most at88sc1608 (m .state) k in
     let r = entries-most ks (after m k) in
     omega arith

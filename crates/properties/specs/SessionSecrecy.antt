@@ -1,6 +1,7 @@
 -- Demand 3 of a session's records ("By demand 2 it holds of a session's records too"): two sessions that agree outside secret places
 -- of their cards, under the conditions of demand 3 on the records that are run, give the same refusal, or logs that agree outside those
--- places of the final card; and each record hands out the same tries and leaves the same state, its busy time among it.
+-- places of the final card, zone bytes among the rest; and each record hands out the same tries and leaves the same state, its busy time
+-- among it.
 use Prim.Native.Nat.{ℕ, _<_}
 use mathlib.Core.Bool.{true}
 use mathlib.Core.List.{List}

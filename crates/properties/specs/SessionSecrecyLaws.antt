@@ -16,7 +16,7 @@ use Rattle.model.specs.Device.{counterPlace}
 use Rattle.model.specs.At88sc1608.{at88sc1608}
 use Rattle.model.specs.Access.{rpe, ate, passwordSet}
 use Rattle.model.specs.Call.{Call}
-use Rattle.model.specs.Log.{Entry, entriesBytes, logTrailer, logBytes}
+use Rattle.model.specs.Log.{Entry, zoned, entriesBytes, logTrailer, logBytes}
 use Rattle.model.specs.Reader.{recordsEnd}
 use Rattle.model.specs.Refusal.{bytesLeft, noSpace}
 use Rattle.model.specs.Session.{cardOf, startOf, countOf, frame, Read, stopped, all, instructionsIn, readFrom, entriesOf, endOf, logOf, fullEntries, initial}
@@ -84,33 +84,35 @@ places hidden f n i e = let q : n - leastLog ≡ f = omega arith in rw (q, le-le
 
 -- equal entries around cards that agree
 accepted-alike : (hidden : ℕ → Bool) (es₁ es₂ : List Entry) (c₁ c₂ space : List ℕ) → es₁ ≡ es₂ → length c₁ ≡ cardSize → AgreeOutside hidden c₁ c₂
-    → RunAlike hidden (accepting (logBytes es₁ c₁) space) (accepting (logBytes es₂ c₂) space)
+    → RunAlike hidden (accepting (logBytes zoned es₁ c₁) space) (accepting (logBytes zoned es₂ c₂) space)
 accepted-alike hidden es₁ es₂ c₁ c₂ space e l a =
-    subst (λ (es : List Entry). RunAlike hidden (accepting (logBytes es₁ c₁) space) (accepting (logBytes es c₂) space)) e same
+    subst (λ (es : List Entry). RunAlike hidden (accepting (logBytes zoned es₁ c₁) space) (accepting (logBytes zoned es c₂) space)) e same
   where
     front : List ℕ
-    front = entriesBytes es₁
+    front = entriesBytes zoned es₁
 
     back : List ℕ
-    back = logTrailer (length front) (length es₁)
+    back = logTrailer zoned (length front) (length es₁)
 
-    log-length : (c : List ℕ) → length (logBytes es₁ c) ≡ length front + (length c + 8)
+    log-length : (c : List ℕ) → length (logBytes zoned es₁ c) ≡ length front + (length c + 8)
     log-length c = simp length-append
 
-    lengths : length (logBytes es₁ c₁) ≡ length (logBytes es₁ c₂)
+    lengths : length (logBytes zoned es₁ c₁) ≡ length (logBytes zoned es₁ c₂)
     lengths = log-length c₁ ∙ ap (λ (n : ℕ). length front + (n + 8)) (a .long) ∙ sym (log-length c₂)
 
     behind : List ℕ
-    behind = back ++ drop (length (logBytes es₁ c₁)) space
+    behind = back ++ drop (length (logBytes zoned es₁ c₁)) space
 
-    joined : (c : List ℕ) → length (logBytes es₁ c₁) ≡ length (logBytes es₁ c) → accepting (logBytes es₁ c) space .space ≡ front ++ (c ++ behind)
+    joined : (c : List ℕ) → length (logBytes zoned es₁ c₁) ≡ length (logBytes zoned es₁ c)
+        → accepting (logBytes zoned es₁ c) space .space ≡ front ++ (c ++ behind)
     joined c q =
-        ap (λ (n : ℕ). logBytes es₁ c ++ drop n space) (sym q) ∙ append-assoc front (c ++ back) _ ∙ ap (λ (x : List ℕ). front ++ x) (append-assoc c back _)
+        ap (λ (n : ℕ). logBytes zoned es₁ c ++ drop n space) (sym q) ∙ append-assoc front (c ++ back) _
+        ∙ ap (λ (x : List ℕ). front ++ x) (append-assoc c back _)
 
     within : AgreeOutside (λ i. leb (length front) i && hidden (i - length front)) (front ++ (c₁ ++ behind)) (front ++ (c₂ ++ behind))
     within = agree-within hidden front c₁ c₂ behind a
 
-    same : RunAlike hidden (accepting (logBytes es₁ c₁) space) (accepting (logBytes es₁ c₂) space)
+    same : RunAlike hidden (accepting (logBytes zoned es₁ c₁) space) (accepting (logBytes zoned es₁ c₂) space)
     same =
         let p₁ = joined c₁ refl in
         let p₂ = joined c₂ lengths in
@@ -120,7 +122,7 @@ accepted-alike hidden es₁ es₂ c₁ c₂ space e l a =
           outside = record {
             long = ap length p₁ ∙ within .long ∙ sym (ap length p₂);
             same = λ i h. ap (λ (x : List ℕ). at x i) p₁
-                ∙ within .same i (sym (places hidden (length front) (length (logBytes es₁ c₁)) i (log-length c₁ ∙ (omega arith))) ∙ h)
+                ∙ within .same i (sym (places hidden (length front) (length (logBytes zoned es₁ c₁)) i (log-length c₁ ∙ (omega arith))) ∙ h)
                 ∙ sym (ap (λ (x : List ℕ). at x i) p₂);
           };
         }
@@ -157,8 +159,8 @@ module _ (hidden : ℕ → Bool) (in-card : (i : ℕ) → fuseAt ≤ i → hidde
 
     entries-same : entriesOf ks (initial s₁) ≡ entriesOf ks (initial s₂)
     entries-same =
-        sym (same₁ .entries) ∙ ap entriesFrom (indistinguishable .observed)
-        ∙ ap (λ (xs : List Call). entriesFrom (replies xs (initial s₂))) xs-same ∙ same₂ .entries
+        sym (same₁ .entries) ∙ ap (entriesFrom 0) (indistinguishable .observed)
+        ∙ ap (λ (xs : List Call). entriesFrom 0 (replies xs (initial s₂))) xs-same ∙ same₂ .entries
 
     tries-same : triesIn ks (initial s₁) ≡ triesIn ks (initial s₂)
     tries-same =

@@ -38,8 +38,8 @@ abbrev pub statesIn : List Instruction → Powered State → List State
 statesIn [] m = []
 statesIn (k ∷ ks) m = after m k .state ∷ statesIn ks (after m k)
 
--- two lists of instructions that are not told apart: each logs and hands out the same and leaves the same state, so both cards are busy at
--- the same moments; and the cards left have equal counters and agree
+-- two lists of instructions that are not told apart: each logs the same, its zone among it, hands out the same and leaves the same
+-- state, so both cards are busy at the same moments; and the cards left have equal counters and agree
 pub record RecordsAlike (hidden : ℕ → Bool) (ks₁ ks₂ : List Instruction) (m₁ m₂ : Powered State) : Type 0 where
   pub entries : entriesOf ks₁ m₁ ≡ entriesOf ks₂ m₂
   pub tries : triesIn ks₁ m₁ ≡ triesIn ks₂ m₂

@@ -1,6 +1,6 @@
 -- A log that was written is accepted, and every answer that was written is given back.
 use Prim.Native.Nat.{ℕ, zero, suc, _+_, _-_, _*_, _≤_, _<_}
-use mathlib.Core.Bool.{Bool, true, false, _&&_, _||_}
+use mathlib.Core.Bool.{Bool, true, false, cond, not, _&&_, _||_}
 use mathlib.Core.List.{List, [], _∷_, _++_, append-assoc}
 use mathlib.Core.Path.{_≡_, refl, sym, ap, _∙_}
 use native.Mathlib.Nat.{add-zero, le-of-suc-le-suc}
@@ -15,11 +15,14 @@ use Rattle.laws.specs.BoolLaws.{and-right}
 use Rattle.model.specs.Numbers.{bytesOf, numberAt}
 use Rattle.laws.specs.KindLaws.{each-row}
 use Rattle.laws.specs.NumberLaws.{number-append, number-bytes}
-use Rattle.model.specs.Log.{Entry, entryBytes, entriesBytes, logTrailer, ignoredKind, entryFits, AllFit, LaidOut}
-use Rattle.model.specs.Log.{countOf, offsetOf, lengthAt, nextEntry, entryOk, entriesOk, valid, entryPlace, find, missing, answerIn}
+use Rattle.model.specs.Log.{Ending, ending, endingOf, Entry, zoneBytes, headerBytes, headerLength, entryBytes, entriesBytes, logTrailer}
+use Rattle.model.specs.Log.{ignoredKind, entryFits, zoneFits, AllFit, Fits, LaidOut, countOf, offsetOf, lengthAt, responseAt, nextEntry}
+use Rattle.model.specs.Log.{entryOk, entriesOk, validAs, valid, entryPlace, placeOf, find, missing, answerIn}
 use Rattle.model.specs.Record.{Kind, kinds, known, lengthFits}
 use Rattle.model.specs.Refusal.{noSuchAnswer}
-use Rattle.properties.specs.LogLaws.{entry-well, Trailed, trailer-well}
+use Rattle.laws.specs.EntryLaws.{header-least, header-most}
+use Rattle.properties.specs.AcceptedSession.{entryOf}
+use Rattle.properties.specs.LogLaws.{entry-well, Trailed, trailer-well, ending-is}
 
 -- ---- lengths
 
@@ -47,196 +50,237 @@ entry-small kind n = go (known kind && lengthFits kind n) refl
     go true q e = fits-small kind n (and-right (known kind) _ q)
     go false q e = let z = eqb-true n 0 (and-right (ignoredKind kind) _ e) in omega arith
 
-pub length-entry : (e : Entry) → length (entryBytes e) ≡ 3 + length (e .response)
-length-entry e = ap suc (length-append (bytesOf 2 (length (e .response))) (e .response)) ∙ (omega arith)
-
-pub entries-small : (es : List Entry) → AllFit es → length (entriesBytes es) ≤ 259 * length es
-entries-small [] f = omega arith
-entries-small (e ∷ es) f =
-    let a = length-append (entryBytes e) (entriesBytes es) in
-    let b = length-entry e in
-    let c = entry-small (e .kind) (length (e .response)) (f .0) in
-    let d = entries-small es (f .1) in
-    omega arith
-
--- ---- an entry behind a prefix
-
-module _ (p : List ℕ) (e : Entry) (q : List ℕ) where
-  abbrev whole : List ℕ
-  whole = p ++ (entryBytes e ++ q)
-
-  pub kind-at : at whole (length p) ≡ e .kind
-  kind-at = getD-append-seam p (e .kind) ((bytesOf 2 (length (e .response)) ++ e .response) ++ q) 0
-
-  pub length-at : length (e .response) < 65536 → lengthAt whole (length p) ≡ length (e .response)
-  length-at h =
-      number-append p (entryBytes e ++ q) 1 2
-      ∙ ap (λ (l : List ℕ). numberAt (e .kind ∷ l) 1 2) (append-assoc (bytesOf 2 (length (e .response))) (e .response) q)
-      ∙ number-bytes 2 (length (e .response)) (e .response ++ q) h
-
-  pub next-at : length (e .response) < 65536 → nextEntry whole (length p) ≡ length (p ++ entryBytes e)
-  next-at h =
-      let a = length-append p (entryBytes e) in
-      let b = length-entry e in
-      ap (λ (n : ℕ). length p + 3 + n) (length-at h) ∙ (omega arith)
-
-  pub response-at : length (e .response) < 65536 → take (lengthAt whole (length p)) (drop (length p + 3) whole) ≡ e .response
-  response-at h =
-      rw (length-at h, drop-append-add p (entryBytes e ++ q) 3)
-      (ap (take (length (e .response))) (ap (drop 3) (ap (λ (l : List ℕ). e .kind ∷ l) (append-assoc (bytesOf 2 (length (e .response))) (e .response) q)))
-      ∙ take-append-seam (e .response) q)
-
--- ---- all entries
-
--- the kind and the response of entry k
-abbrev pub kindOfEntry : List Entry → ℕ → ℕ
-kindOfEntry [] k = 0
-kindOfEntry (e ∷ es) zero = e .kind
-kindOfEntry (e ∷ es) (suc k) = kindOfEntry es k
-
-abbrev pub responseOf : List Entry → ℕ → List ℕ
-responseOf [] k = []
-responseOf (e ∷ es) zero = e .response
-responseOf (e ∷ es) (suc k) = responseOf es k
-
 pub fits-two : (e : Entry) → entryFits (e .kind) (length (e .response)) ≡ true → length (e .response) < 65536
 fits-two e f = let c = entry-small (e .kind) (length (e .response)) f in omega arith
 
--- the first entry, and the others behind it
-pub first-entry : (p : List ℕ) (e : Entry) (es : List Entry) (q : List ℕ) → p ++ (entriesBytes (e ∷ es) ++ q) ≡ whole p e (entriesBytes es ++ q)
-first-entry p e es q = ap (λ (l : List ℕ). p ++ l) (append-assoc (entryBytes e) (entriesBytes es) q)
+module _ (E : Ending) where
+  pub length-header : (kind n zone : ℕ) → length (headerBytes E kind n zone) ≡ headerLength E kind
+  unfolding headerLength
+  length-header kind n zone = go (E .names kind)
+    where
+      go : (t : Bool) → length (kind ∷ (bytesOf 2 n ++ cond t (zone ∷ []) [])) ≡ cond t 4 3
+      go true = refl
+      go false = refl
 
-pub other-entries : (p : List ℕ) (e : Entry) (es : List Entry) (q : List ℕ) → (p ++ entryBytes e) ++ (entriesBytes es ++ q) ≡ whole p e (entriesBytes es ++ q)
-other-entries p e es q = append-assoc p (entryBytes e) (entriesBytes es ++ q)
+  pub length-entry : (e : Entry) → length (entryBytes E e) ≡ headerLength E (e .kind) + length (e .response)
+  length-entry e =
+      length-append (headerBytes E (e .kind) (length (e .response)) (e .zone)) (e .response)
+      ∙ ap (λ (n : ℕ). n + length (e .response)) (length-header (e .kind) (length (e .response)) (e .zone))
 
-pub entries-well : (es : List Entry) (p q : List ℕ) (end : ℕ) → AllFit es → length p + length (entriesBytes es) ≡ end
-    → entriesOk (length es) (p ++ (entriesBytes es ++ q)) (length p) end ≡ true
-entries-well [] p q end f t = let z : length p ≡ end = sym (add-zero (length p)) ∙ t in eq-eqb (length p) end z
-entries-well (e ∷ es) p q end f t =
-    let l : List ℕ = whole p e (entriesBytes es ++ q) in
-    let h : length (e .response) < 65536 = fits-two e (f .0) in
-    let a = length-append p (entryBytes e) in
-    let b = length-append (entryBytes e) (entriesBytes es) in
-    let d = length-entry e in
-    let n : nextEntry l (length p) ≡ length (p ++ entryBytes e) = next-at p e (entriesBytes es ++ q) h in
-    let here : entryOk l (length p) end ≡ true =
-    entry-well l (length p) end
-    (record {
-      header = omega arith;
-      fits = rw (kind-at p e (entriesBytes es ++ q), length-at p e (entriesBytes es ++ q) h) (f .0);
-      next = omega arith;
-    }) in
-    let rest : entriesOk (length es) l (nextEntry l (length p)) end ≡ true =
-    rw n (rw (other-entries p e es q) at (entries-well es (p ++ entryBytes e) q end (f .1) (omega arith))) in
-    rw (first-entry p e es q, here) rest
+  pub entry-most : (e : Entry) → Fits E e → length (entryBytes E e) ≤ 260
+  entry-most e f =
+      let b = length-entry e in
+      let c = entry-small (e .kind) (length (e .response)) (f .response-fits) in
+      let h = header-most E (e .kind) in
+      omega arith
 
--- the place of entry k lies behind the entries before it, and its bytes are its response
-pub responses-back : (es : List Entry) (p q : List ℕ) → AllFit es → (k : ℕ) → k < length es
-    → take (lengthAt (p ++ (entriesBytes es ++ q)) (entryPlace k (p ++ (entriesBytes es ++ q)) (length p)))
-    (drop (entryPlace k (p ++ (entriesBytes es ++ q)) (length p) + 3) (p ++ (entriesBytes es ++ q))) ≡ responseOf es k
-responses-back [] p q f k h = absurd (let z : ⊥ = omega arith in z)
-responses-back (e ∷ es) p q f zero h = rw (first-entry p e es q) (response-at p e (entriesBytes es ++ q) (fits-two e (f .0)))
-responses-back (e ∷ es) p q f (suc k) h =
-    rw (first-entry p e es q, next-at p e (entriesBytes es ++ q) (fits-two e (f .0)))
-    (rw (other-entries p e es q) at (responses-back es (p ++ entryBytes e) q (f .1) k (le-of-suc-le-suc h)))
+  pub entries-small : (es : List Entry) → AllFit E es → length (entriesBytes E es) ≤ 260 * length es
+  entries-small [] f = omega arith
+  entries-small (e ∷ es) f =
+      let a = length-append (entryBytes E e) (entriesBytes E es) in
+      let b = entry-most e (f .0) in
+      let d = entries-small es (f .1) in
+      omega arith
 
--- and its first byte is its kind
-pub kinds-back : (es : List Entry) (p q : List ℕ) → AllFit es → (k : ℕ) → k < length es
-    → at (p ++ (entriesBytes es ++ q)) (entryPlace k (p ++ (entriesBytes es ++ q)) (length p)) ≡ kindOfEntry es k
-kinds-back [] p q f k h = absurd (let z : ⊥ = omega arith in z)
-kinds-back (e ∷ es) p q f zero h = rw (first-entry p e es q) (kind-at p e (entriesBytes es ++ q))
-kinds-back (e ∷ es) p q f (suc k) h =
-    rw (first-entry p e es q, next-at p e (entriesBytes es ++ q) (fits-two e (f .0)))
-    (rw (other-entries p e es q) at (kinds-back es (p ++ entryBytes e) q (f .1) k (le-of-suc-le-suc h)))
+  -- ---- an entry behind a prefix
 
--- ---- the trailer, and the whole log
+  module _ (p : List ℕ) (e : Entry) (q : List ℕ) where
+    abbrev whole : List ℕ
+    whole = p ++ (entryBytes E e ++ q)
 
-module _ (es : List Entry) (card l : List ℕ) (w : LaidOut es card l) where
-  abbrev front : List ℕ
-  front = entriesBytes es ++ card
+    abbrev header : List ℕ
+    header = headerBytes E (e .kind) (length (e .response)) (e .zone)
 
-  abbrev offset : ℕ
-  offset = length (entriesBytes es)
+    pub kind-at : at whole (length p) ≡ e .kind
+    kind-at = getD-append-seam p (e .kind) (((bytesOf 2 (length (e .response)) ++ zoneBytes E (e .kind) (e .zone)) ++ e .response) ++ q) 0
 
-  front-length : length front ≡ offset + cardSize
-  front-length = length-append (entriesBytes es) card ∙ ap (λ (n : ℕ). offset + n) (w .long)
+    pub length-at : length (e .response) < 65536 → lengthAt whole (length p) ≡ length (e .response)
+    length-at h =
+        number-append p (entryBytes E e ++ q) 1 2
+        ∙ number-bytes 2 (length (e .response)) ((zoneBytes E (e .kind) (e .zone) ++ e .response) ++ q) h
 
-  behind : l ≡ front ++ logTrailer offset (length es)
-  behind = w .same ∙ sym (append-assoc (entriesBytes es) card (logTrailer offset (length es)))
+    pub zone-at : E .names (e .kind) ≡ true → at whole (length p + 3) ≡ e .zone
+    zone-at n = getD-append-add p (entryBytes E e ++ q) 3 0 ∙ rw n
 
-  pub log-length : length l ≡ offset + leastLog
-  log-length =
-      let a = length-append front (logTrailer offset (length es)) in
-      let b = front-length in
-      ap length behind ∙ (omega arith)
+    pub response-is : responseAt E whole (length p) ≡ length p + length header
+    response-is =
+        ap (λ (k : ℕ). length p + headerLength E k) kind-at
+        ∙ ap (λ (n : ℕ). length p + n) (sym (length-header (e .kind) (length (e .response)) (e .zone)))
 
-  -- a number, and a byte, of the trailer
-  trailer-number : (i width : ℕ) → numberAt l (offset + cardSize + i) width ≡ numberAt (logTrailer offset (length es)) i width
-  trailer-number i width =
-      rw (behind, ← front-length) (number-append front (logTrailer offset (length es)) i width)
+    pub next-at : length (e .response) < 65536 → nextEntry E whole (length p) ≡ length (p ++ entryBytes E e)
+    next-at h =
+        let a = length-append p (entryBytes E e) in
+        let b = length-append header (e .response) in
+        (λ i. response-is i + length-at h i) ∙ (omega arith)
 
-  trailer-byte : (i : ℕ) → at l (offset + cardSize + i) ≡ at (logTrailer offset (length es)) i
-  trailer-byte i = rw (behind, ← front-length) (getD-append-add front (logTrailer offset (length es)) i 0)
+    pub response-at : length (e .response) < 65536 → take (lengthAt whole (length p)) (drop (responseAt E whole (length p)) whole) ≡ e .response
+    response-at h =
+        rw (length-at h, response-is, drop-append-add p (entryBytes E e ++ q) (length header), append-assoc header (e .response) q)
+        (ap (take (length (e .response))) (drop-append-seam header (e .response ++ q)) ∙ take-append-seam (e .response) q)
 
-  pub offset-is : offsetOf l ≡ offset
-  offset-is =
-      let a = log-length in
-      let b = entries-small es (w .fit) in
-      let c = w .few in
-      let e : length l - trailerSize ≡ offset + cardSize + 0 = omega arith in
-      ap (λ (i : ℕ). numberAt l i 4) e ∙ trailer-number 0 4 ∙ number-bytes 4 offset (bytesOf 2 (length es) ++ (0x4C ∷ 0x4F ∷ [])) (omega arith)
+  -- ---- all entries
 
-  pub count-is : countOf l ≡ length es
-  count-is =
-      let a = log-length in
-      let c = w .few in
-      let e : length l - 4 ≡ offset + cardSize + 4 = omega arith in
-      ap (λ (i : ℕ). numberAt l i 2) e ∙ trailer-number 4 2 ∙ number-bytes 2 (length es) (0x4C ∷ 0x4F ∷ []) (omega arith)
+  -- the first entry, and the others behind it
+  pub first-entry : (p : List ℕ) (e : Entry) (es : List Entry) (q : List ℕ)
+      → p ++ (entriesBytes E (e ∷ es) ++ q) ≡ whole p e (entriesBytes E es ++ q)
+  first-entry p e es q = ap (λ (l : List ℕ). p ++ l) (append-assoc (entryBytes E e) (entriesBytes E es) q)
 
-  fuse-is : at l (offset + fuseAt) ≡ at card fuseAt
-  fuse-is =
-      ap (λ (x : List ℕ). at x (offset + fuseAt)) (w .same)
-      ∙ getD-append-add (entriesBytes es) (card ++ logTrailer offset (length es)) fuseAt 0
-      ∙ List·getD-append card (logTrailer offset (length es)) 0 fuseAt (let n = w .long in omega arith)
+  pub other-entries : (p : List ℕ) (e : Entry) (es : List Entry) (q : List ℕ)
+      → (p ++ entryBytes E e) ++ (entriesBytes E es ++ q) ≡ whole p e (entriesBytes E es ++ q)
+  other-entries p e es q = append-assoc p (entryBytes E e) (entriesBytes E es ++ q)
 
-  trailer-is : Trailed l
-  trailer-is =
-      let a = log-length in
-      let e₂ : length l - 2 ≡ offset + cardSize + 6 = omega arith in
-      let e₁ : length l - 1 ≡ offset + cardSize + 7 = omega arith in
-      record {
-        long = omega arith;
-        first = ap (at l) e₂ ∙ trailer-byte 6;
-        second = ap (at l) e₁ ∙ trailer-byte 7;
-        few = rw count-is (w .few);
-        meets = rw offset-is (sym a);
-        stage = rw (offset-is, fuse-is) (w .stage);
-      }
+  zone-here : (p : List ℕ) (e : Entry) (q : List ℕ) → Fits E e → zoneFits E (at (whole p e q) (length p)) (at (whole p e q) (length p + 3)) ≡ true
+  unfolding zoneFits
+  zone-here p e q f = rw (kind-at p e q) (go (E .names (e .kind)) refl (f .zone-fits))
+    where
+      go : (t : Bool) → E .names (e .kind) ≡ t → (not t || leb (e .zone) 7) ≡ true → (not t || leb (at (whole p e q) (length p + 3)) 7) ≡ true
+      go true n g = rw (zone-at p e q n) g
+      go false n g = refl
 
-  entries-are : entriesOk (length es) l 0 offset ≡ true
-  entries-are = rw (w .same) (entries-well es [] (card ++ logTrailer offset (length es)) offset (w .fit) (omega arith))
+  pub entries-well : (es : List Entry) (p q : List ℕ) (end : ℕ) → AllFit E es → length p + length (entriesBytes E es) ≡ end
+      → entriesOk E (length es) (p ++ (entriesBytes E es ++ q)) (length p) end ≡ true
+  entries-well [] p q end f t = let z : length p ≡ end = sym (add-zero (length p)) ∙ t in eq-eqb (length p) end z
+  entries-well (e ∷ es) p q end f t =
+      let l : List ℕ = whole p e (entriesBytes E es ++ q) in
+      let h : length (e .response) < 65536 = fits-two e (f .0 .response-fits) in
+      let a = length-append p (entryBytes E e) in
+      let b = length-append (entryBytes E e) (entriesBytes E es) in
+      let d = length-entry e in
+      let g = header-least E (e .kind) in
+      let n : nextEntry E l (length p) ≡ length (p ++ entryBytes E e) = next-at p e (entriesBytes E es ++ q) h in
+      let here : entryOk E l (length p) end ≡ true =
+      entry-well E l (length p) end
+      (record {
+        header = omega arith;
+        fits = rw (kind-at p e (entriesBytes E es ++ q), length-at p e (entriesBytes E es ++ q) h) (f .0 .response-fits);
+        zone = zone-here p e (entriesBytes E es ++ q) (f .0);
+        next = omega arith;
+      }) in
+      let rest : entriesOk E (length es) l (nextEntry E l (length p)) end ≡ true =
+      rw n (rw (other-entries p e es q) at (entries-well es (p ++ entryBytes E e) q end (f .1) (omega arith))) in
+      rw (first-entry p e es q, here) rest
+
+  -- what holds of every entry behind a prefix, at its place, holds of entry k
+  pub each-entry : (P : Entry → List ℕ → ℕ → Type 0) → ((p : List ℕ) (e : Entry) (q : List ℕ) → Fits E e → P e (whole p e q) (length p))
+      → (es : List Entry) (p q : List ℕ) → AllFit E es → (k : ℕ) → k < length es
+      → P (entryOf es k) (p ++ (entriesBytes E es ++ q)) (entryPlace E k (p ++ (entriesBytes E es ++ q)) (length p))
+  each-entry P here [] p q f k h = absurd (let z : ⊥ = omega arith in z)
+  each-entry P here (e ∷ es) p q f zero h = rw (first-entry p e es q) (here p e (entriesBytes E es ++ q) (f .0))
+  each-entry P here (e ∷ es) p q f (suc k) h =
+      rw (first-entry p e es q, next-at p e (entriesBytes E es ++ q) (fits-two e (f .0 .response-fits)))
+      (rw (other-entries p e es q) at (each-entry P here es (p ++ entryBytes E e) q (f .1) k (le-of-suc-le-suc h)))
+
+  -- ---- the trailer, and the whole log
+
+  module _ (es : List Entry) (card l : List ℕ) (w : LaidOut E es card l) where
+    abbrev front : List ℕ
+    front = entriesBytes E es ++ card
+
+    abbrev offset : ℕ
+    offset = length (entriesBytes E es)
+
+    front-length : length front ≡ offset + cardSize
+    front-length = length-append (entriesBytes E es) card ∙ ap (λ (n : ℕ). offset + n) (w .long)
+
+    behind : l ≡ front ++ logTrailer E offset (length es)
+    behind = w .same ∙ sym (append-assoc (entriesBytes E es) card (logTrailer E offset (length es)))
+
+    pub log-length : length l ≡ offset + leastLog
+    log-length =
+        let a = length-append front (logTrailer E offset (length es)) in
+        let b = front-length in
+        ap length behind ∙ (omega arith)
+
+    -- a number, and a byte, of the trailer
+    trailer-number : (i width : ℕ) → numberAt l (offset + cardSize + i) width ≡ numberAt (logTrailer E offset (length es)) i width
+    trailer-number i width =
+        rw (behind, ← front-length) (number-append front (logTrailer E offset (length es)) i width)
+
+    trailer-byte : (i : ℕ) → at l (offset + cardSize + i) ≡ at (logTrailer E offset (length es)) i
+    trailer-byte i = rw (behind, ← front-length) (getD-append-add front (logTrailer E offset (length es)) i 0)
+
+    pub offset-is : offsetOf l ≡ offset
+    offset-is =
+        let a = log-length in
+        let b = entries-small es (w .fit) in
+        let c = w .few in
+        let e : length l - trailerSize ≡ offset + cardSize + 0 = omega arith in
+        ap (λ (i : ℕ). numberAt l i 4) e ∙ trailer-number 0 4 ∙ number-bytes 4 offset (bytesOf 2 (length es) ++ (0x4C ∷ E .last ∷ [])) (omega arith)
+
+    pub count-is : countOf l ≡ length es
+    count-is =
+        let a = log-length in
+        let c = w .few in
+        let e : length l - 4 ≡ offset + cardSize + 4 = omega arith in
+        ap (λ (i : ℕ). numberAt l i 2) e ∙ trailer-number 4 2 ∙ number-bytes 2 (length es) (0x4C ∷ E .last ∷ []) (omega arith)
+
+    fuse-is : at l (offset + fuseAt) ≡ at card fuseAt
+    fuse-is =
+        ap (λ (x : List ℕ). at x (offset + fuseAt)) (w .same)
+        ∙ getD-append-add (entriesBytes E es) (card ++ logTrailer E offset (length es)) fuseAt 0
+        ∙ List·getD-append card (logTrailer E offset (length es)) 0 fuseAt (let n = w .long in omega arith)
+
+    pub trailer-is : Trailed E l
+    trailer-is =
+        let a = log-length in
+        let e₂ : length l - 2 ≡ offset + cardSize + 6 = omega arith in
+        let e₁ : length l - 1 ≡ offset + cardSize + 7 = omega arith in
+        record {
+          long = omega arith;
+          first = ap (at l) e₂ ∙ trailer-byte 6;
+          second = ap (at l) e₁ ∙ trailer-byte 7;
+          few = rw count-is (w .few);
+          meets = rw offset-is (sym a);
+          stage = rw (offset-is, fuse-is) (w .stage);
+        }
+
+    entries-are : entriesOk E (length es) l 0 offset ≡ true
+    entries-are = rw (w .same) (entries-well es [] (card ++ logTrailer E offset (length es)) offset (w .fit) (omega arith))
+
+    -- the log is accepted under its ending
+    pub written-well : validAs E l ≡ true
+    unfolding validAs
+    written-well = rw (trailer-well E l trailer-is, count-is, offset-is) entries-are
+
+    -- what holds of every entry at its place holds of entry k of the log
+    pub written-each : (P : Entry → List ℕ → ℕ → Type 0) → ((p : List ℕ) (e : Entry) (q : List ℕ) → Fits E e → P e (whole p e q) (length p))
+        → (k : ℕ) → k < length es → P (entryOf es k) l (entryPlace E k l 0)
+    written-each P here k h = rw (w .same) (each-entry P here es [] (card ++ logTrailer E offset (length es)) (w .fit) k h)
+
+    -- its card is the card that was written
+    pub written-card : take cardSize (drop (offsetOf l) l) ≡ card
+    written-card =
+        rw (offset-is, w .same, drop-append-seam (entriesBytes E es) (card ++ logTrailer E offset (length es)))
+        (take-at card (logTrailer E offset (length es)) cardSize (w .long))
+
+-- ---- as the reader takes it, which knows both endings
+
+module _ (z : Bool) (es : List Entry) (card l : List ℕ) (w : LaidOut (ending z) es card l) where
+  pub written-ending : endingOf l ≡ ending z
+  written-ending = ending-is z l (trailer-is (ending z) es card l w .second)
 
   -- the log is accepted
   pub written-valid : valid l ≡ true
-  unfolding valid
-  written-valid = rw (trailer-well l trailer-is, count-is, offset-is) entries-are
+  written-valid = rw written-ending (written-well (ending z) es card l w)
 
   -- answer k is the response of entry k
-  pub written-answer : (k : ℕ) → k < length es → answerIn l (find l k) ≡ responseOf es k
+  pub written-answer : (k : ℕ) → k < length es → answerIn l (find l k) ≡ entryOf es k .response
   unfolding find
-  written-answer k h = rw (written-valid, count-is, lt-ltb _ _ h) (rw (w .same) (responses-back es [] (card ++ logTrailer offset (length es)) (w .fit) k h))
+  written-answer k h =
+      rw (written-valid, count-is (ending z) es card l w, lt-ltb _ _ h, written-ending)
+      (written-each (ending z) es card l w (λ e l i. take (lengthAt l i) (drop (responseAt (ending z) l i) l) ≡ e .response)
+      (λ p e q f. response-at (ending z) p e q (fits-two e (f .response-fits))) k h)
 
-  -- its kind is that of entry k
-  pub written-kind : (k : ℕ) → k < length es → at l (entryPlace k l 0) ≡ kindOfEntry es k
-  written-kind k h = rw (w .same) (kinds-back es [] (card ++ logTrailer offset (length es)) (w .fit) k h)
+  -- its kind is that of entry k, and so is its zone where it is named
+  pub written-kind : (k : ℕ) → k < length es → at l (placeOf l k) ≡ entryOf es k .kind
+  written-kind k h = rw written-ending (written-each (ending z) es card l w (λ e l i. at l i ≡ e .kind) (λ p e q f. kind-at (ending z) p e q) k h)
+
+  pub written-zone : (k : ℕ) → k < length es → ending z .names (entryOf es k .kind) ≡ true → at l (placeOf l k + 3) ≡ entryOf es k .zone
+  written-zone k h =
+      rw written-ending
+      (written-each (ending z) es card l w (λ e l i. ending z .names (e .kind) ≡ true → at l (i + 3) ≡ e .zone) (λ p e q f. zone-at (ending z) p e q) k h)
 
   -- and past the last entry there is none
   pub written-none : (k : ℕ) → length es ≤ k → find l k ≡ missing noSuchAnswer
   unfolding find
-  written-none k h = rw (written-valid, count-is, le-ltb _ _ h)
-
-  -- its card is the card that was written
-  pub written-card : take cardSize (drop (offsetOf l) l) ≡ card
-  written-card =
-      rw (offset-is, w .same, drop-append-seam (entriesBytes es) (card ++ logTrailer offset (length es)))
-      (take-at card (logTrailer offset (length es)) cardSize (w .long))
+  written-none k h = rw (written-valid, count-is (ending z) es card l w, le-ltb _ _ h)

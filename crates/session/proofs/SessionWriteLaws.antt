@@ -8,14 +8,14 @@ use lib.Dec.{ltb}
 use lib.ListN.{length, take, drop, length-append, length-take, length-drop, take-append-drop, drop-of-length-le}
 use lib.Seq.{sets, sets-eq, length-sets, drop-append-le, drop-drop, take-all, length-take-le}
 use Rattle.model.specs.Sizes.{cardSize, leastSession, leastLog}
-use Rattle.model.specs.Numbers.{bytesOf}
 use Rattle.laws.specs.NumberLaws.{sets-append}
 use Rattle.model.specs.At88sc1608.{at88sc1608}
 use Rattle.model.specs.Busy.{State, powerOn, actsAlways, ignores, answeredKind}
 use Rattle.model.specs.Call.{Powered, powered, silent, whole}
 use Rattle.model.specs.Instruction.{Instruction, kindOf}
 use Rattle.laws.specs.BusyLaws.{fullAnswer, givenAnswer, act-ignored, given-answer, given-most}
-use Rattle.model.specs.Log.{entryBytes, entriesBytes, logTrailer}
+use Rattle.laws.specs.EntryLaws.{header-least, fullEntry}
+use Rattle.model.specs.Log.{zoned, headerBytes, headerLength, entryBytes, entriesBytes, logTrailer}
 use Rattle.model.specs.Reader.{recordsEnd, partAt}
 use Rattle.model.specs.Record.{fixedFields, dataLength, made}
 use Rattle.laws.specs.ReaderLaws.{next-within}
@@ -24,13 +24,14 @@ use Rattle.laws.specs.Sane.{Good, good-after}
 use Rattle.model.specs.Session.{cardOf, startOf, countOf, readFrom, all, logged, after, entriesOf, endOf, initial, logOf}
 use Rattle.model.specs.Single.{act}
 use Rattle.record.specs.DecodedRecord.{headOf, askedBy}
-use Rattle.record.specs.HeadLaws.{head-known, head-kind, head-size, head-instruction}
+use Rattle.record.specs.HeadLaws.{head-known, head-kind, head-answer, head-size, head-instruction}
 use Rattle.record.specs.declared.decoder.Head.{Head}
 use Rattle.carry.specs.Carried.{Ready, Carried, ActReady, Acted}
 use Rattle.carry.specs.ActLaws.{carry-ready, acted-carried}
 use Rattle.properties.specs.AcceptedSessionLaws.{framed-well, card-good}
 use Rattle.session.specs.Run.{EntryReady, EntryWritten, RecordsReady, RecordsRun, LogReady, LogWritten}
-use Rattle.properties.specs.SessionLaws.{First, read-first, read-none, read-count, entries-length, end-length, fullTotal, entries-most}
+use Rattle.properties.specs.Written.{length-header, length-entry}
+use Rattle.properties.specs.SessionLaws.{entry-length, First, read-first, read-none, read-count, entries-length, end-length, fullTotal, entries-most}
 
 -- ---- one entry
 
@@ -49,42 +50,65 @@ module _ (part : List ℕ) (m : Powered State) (log : List ℕ) (place : ℕ) (r
   abbrev i : Instruction
   i = r .instruction
 
+  abbrev zone : ℕ
+  zone = m .state .volatile .zone
+
   pub entry-known : h .kind ≤ 14
   entry-known = head-known part i (r .size) (r .decodes) h head
+
+  -- a header has room, and a response behind it
+  pub header-room : place + 4 ≤ length log
+  header-room = let h = header-least zoned (kindOf i) in let w = r .room in omega arith
+
+  pub response-room : (a from : ℕ) → a ≡ fullAnswer at88sc1608 (made (h .kind) 0 (h .n) []) → from ≡ place + headerLength zoned (h .kind)
+      → from + a ≤ length log
+  response-room a from answers begins =
+      let w = r .room in
+      let e = ap (headerLength zoned) (head-kind part i (r .size) (r .decodes) h head) in
+      let f = head-answer part i (r .size) (r .decodes) h head in
+      omega arith
 
   act-ready : (space : List ℕ) → givenAnswer at88sc1608 (m .state) i ≤ length space → (h ≡ headOf part) × ActReady (m .card) (m .state) i part (r .size) space
   act-ready space room = (head, record { good = r .good; decodes = r .decodes; room = room })
 
   module _ (t : Bool) (tested : t ≡ (ltb 0 (m .state .busy) && not (actsAlways (h .kind)))) where
     -- an ignored record
-    pub entry-ignored : t ≡ true → (log′ : List ℕ) → log′ ≡ sets log place ((h .kind + 128) ∷ bytesOf 2 0)
-        → EntryWritten part m log place (m .card) (m .state) 0 log′
-    entry-ignored q log′ header =
-        record {
-          instruction = i;
-          size = r .size;
-          decodes = r .decodes;
-          card = λ k. a k .card;
-          state = λ k. a k .report .state;
-          length-is = λ k. length (a k .report .answer);
-          bytes = header ∙ (λ k. sets log place (kinds k ∷ (bytesOf 2 (length (a k .report .answer)) ++ a k .report .answer)));
-        }
-      where
-        kind-same : h .kind ≡ kindOf i
-        kind-same = head-kind part i (r .size) (r .decodes) h head
+    module _ (q : t ≡ true) where
+      kind-same : h .kind ≡ kindOf i
+      kind-same = head-kind part i (r .size) (r .decodes) h head
 
-        ignored : ignores (m .state) i ≡ true
-        ignored = ap (λ (k : ℕ). ltb 0 (m .state .busy) && not (actsAlways k)) (sym kind-same) ∙ sym tested ∙ q
+      ignored : ignores (m .state) i ≡ true
+      ignored = ap (λ (k : ℕ). ltb 0 (m .state .busy) && not (actsAlways k)) (sym kind-same) ∙ sym tested ∙ q
 
-        a : silent (powered (m .card) (m .state)) ≡ act (m .card) (m .state) i
-        a = sym (act-ignored at88sc1608 (m .card) (m .state) i ignored)
+      kinds : h .kind + 128 ≡ answeredKind (m .state) i
+      kinds = ap (λ (k : ℕ). k + 128) kind-same ∙ ap (λ (b : Bool). cond b (kindOf i + 128) (kindOf i)) (sym ignored)
 
-        kinds : h .kind + 128 ≡ answeredKind (m .state) i
-        kinds = ap (λ (k : ℕ). k + 128) kind-same ∙ ap (λ (b : Bool). cond b (kindOf i + 128) (kindOf i)) (sym ignored)
+      pub entry-ignored : (end : ℕ) (log′ : List ℕ) → log′ ≡ sets log place (headerBytes zoned (h .kind + 128) 0 zone)
+          → end ≡ place + headerLength zoned (h .kind + 128) → EntryWritten part m log place (m .card) (m .state) end log′
+      entry-ignored end log′ header ends =
+          record {
+            instruction = i;
+            size = r .size;
+            decodes = r .decodes;
+            card = λ k. a k .card;
+            state = λ k. a k .report .state;
+            end-is =
+                let e = ap (headerLength zoned) kinds in
+                let l = length-entry zoned (logged m i) in
+                let z : 0 ≡ length (logged m i .response) = λ k. length (a k .report .answer) in
+                omega arith;
+            bytes =
+                header ∙ ap (sets log place) (sym (append-nil (headerBytes zoned (h .kind + 128) 0 zone)))
+                ∙ (λ k. sets log place (headerBytes zoned (kinds k) (length (a k .report .answer)) zone ++ a k .report .answer));
+          }
+        where
+          a : silent (powered (m .card) (m .state)) ≡ act (m .card) (m .state) i
+          a = sym (act-ignored at88sc1608 (m .card) (m .state) i ignored)
 
     -- one that is carried out
-    module _ (q : t ≡ false) (a : ℕ) (log₁ : List ℕ) (end : ℕ) (answers : a ≡ fullAnswer at88sc1608 (made (h .kind) 0 (h .n) []))
-        (header : log₁ ≡ sets log place (h .kind ∷ bytesOf 2 a)) (ends : end ≡ 1 + fixedFields (h .kind) + dataLength (h .kind) (h .n)) where
+    module _ (q : t ≡ false) (a : ℕ) (log₁ : List ℕ) (from end : ℕ) (answers : a ≡ fullAnswer at88sc1608 (made (h .kind) 0 (h .n) []))
+        (header : log₁ ≡ sets log place (headerBytes zoned (h .kind) a zone)) (begins : from ≡ place + headerLength zoned (h .kind))
+        (ends : end ≡ 1 + fixedFields (h .kind) + dataLength (h .kind) (h .n)) where
       size-is : end ≡ r .size
       size-is = ends ∙ head-size part i (r .size) (r .decodes) h head
 
@@ -92,14 +116,22 @@ module _ (part : List ℕ) (m : Powered State) (log : List ℕ) (place : ℕ) (r
       instruction-is = (λ k. askedBy part (size-is k) h) ∙ head-instruction part i (r .size) (r .decodes) h head
 
       long : length log₁ ≡ length log
-      long = ap length header ∙ length-sets log place (h .kind ∷ bytesOf 2 a)
+      long = ap length header ∙ length-sets log place (headerBytes zoned (h .kind) a zone)
 
-      room : place + 3 + givenAnswer at88sc1608 (m .state) i ≤ length log₁
-      room = let l = long in let w = r .room in let g = given-most at88sc1608 (m .state) i in omega arith
+      from-is : from ≡ place + length (headerBytes zoned (h .kind) a zone)
+      from-is = begins ∙ ap (λ (n : ℕ). place + n) (sym (length-header zoned (h .kind) a zone))
 
-      module _ (size : ℕ) (space : List ℕ) (sizes : size ≡ length log₁ - (place + 3)) (lends : space ≡ take size (drop (place + 3) log₁)) where
-        space-length : length space ≡ length log₁ - (place + 3)
-        space-length = let e = length-take size (drop (place + 3) log₁) in let d = length-drop (place + 3) log₁ in ap length lends ∙ (omega arith)
+      room : from + givenAnswer at88sc1608 (m .state) i ≤ length log₁
+      room =
+          let l = long in
+          let g = given-most at88sc1608 (m .state) i in
+          let f = answers ∙ head-answer part i (r .size) (r .decodes) h head in
+          let w = response-room a from answers begins in
+          omega arith
+
+      module _ (size : ℕ) (space : List ℕ) (sizes : size ≡ length log₁ - from) (lends : space ≡ take size (drop from log₁)) where
+        space-length : length space ≡ length log₁ - from
+        space-length = let e = length-take size (drop from log₁) in let d = length-drop from log₁ in ap length lends ∙ (omega arith)
 
         ready : (h ≡ headOf part) × ActReady (m .card) (m .state) i part (r .size) space
         ready = act-ready space (let w = room in let e = space-length in omega arith)
@@ -109,9 +141,9 @@ module _ (part : List ℕ) (m : Powered State) (log : List ℕ) (place : ℕ) (r
 
         pub entry-written : (c′ : List ℕ) (s′ : State) (tries : ℕ) (space′ : List ℕ)
             → Carried (m .card) (m .state) (askedBy part end h) space c′ s′ tries space′
-            → EntryWritten part m log place c′ s′ a (take (place + 3) log₁ ++ (space′ ++ drop size (drop (place + 3) log₁)))
+            → EntryWritten part m log place c′ s′ (from + a) (take from log₁ ++ (space′ ++ drop size (drop from log₁)))
         entry-written c′ s′ tries space′ carried =
-            record { instruction = i; size = r .size; decodes = r .decodes; card = w .card; state = w .state; length-is = w .size-is; bytes = bytes }
+            record { instruction = i; size = r .size; decodes = r .decodes; card = w .card; state = w .state; end-is = end-is; bytes = bytes }
           where
             w : Acted (m .card) (m .state) i space c′ (h .kind) a s′ tries space′
             w =
@@ -121,17 +153,25 @@ module _ (part : List ℕ) (m : Powered State) (log : List ℕ) (place : ℕ) (r
             answer : List ℕ
             answer = act (m .card) (m .state) i .report .answer
 
-            bytes : take (place + 3) log₁ ++ (space′ ++ drop size (drop (place + 3) log₁)) ≡ sets log place (entryBytes (logged m i))
+            end-is : from + a ≡ place + length (entryBytes zoned (logged m i))
+            end-is =
+                let b = begins in
+                let e = ap (headerLength zoned) (w .kind-is) in
+                let f = w .size-is in
+                let l = length-entry zoned (logged m i) in
+                omega arith
+
+            bytes : take from log₁ ++ (space′ ++ drop size (drop from log₁)) ≡ sets log place (entryBytes zoned (logged m i))
             bytes =
                 let v = room in
                 let e = space-length in
                 let l = given-answer at88sc1608 (m .card) (m .state) i in
-                ap (λ (x : List ℕ). take (place + 3) log₁ ++ (x ++ drop size (drop (place + 3) log₁)))
+                ap (λ (x : List ℕ). take from log₁ ++ (x ++ drop size (drop from log₁)))
                 (w .answer ∙ (λ k. answer ++ drop (w .size-is k) (lends k)))
-                ∙ lent log₁ (place + 3) size answer (omega arith) (rw (← lends) (omega arith))
-                ∙ ap (λ (x : List ℕ). sets x (place + 3) answer) header
-                ∙ sets-append log place (h .kind ∷ bytesOf 2 a) answer
-                ∙ (λ k. sets log place (w .kind-is k ∷ (bytesOf 2 (w .size-is k) ++ answer)))
+                ∙ lent log₁ from size answer (omega arith) (rw (← lends) (omega arith))
+                ∙ (λ k. sets (header k) (from-is k) answer)
+                ∙ sets-append log place (headerBytes zoned (h .kind) a zone) answer
+                ∙ (λ k. sets log place (headerBytes zoned (w .kind-is k) (w .size-is k) zone ++ answer))
 
 -- ---- the records
 
@@ -144,10 +184,11 @@ pub record Going (s : List ℕ) (start count : ℕ) (c₀ log₀ : List ℕ) (at
   pub forth : at ≤ recordsEnd (length s)
   pub good : Good c v
   pub long : length log ≡ length log₀
-  pub room : place + fullTotal rest ≤ length log
+  pub room : place + fullTotal rest < length log
   pub ends : endOf rest (powered c v) .card ≡ endOf instructions (powered c₀ powerOn) .card
-  pub placed : place + length (entriesBytes (entriesOf rest (powered c v))) ≡ length (entriesBytes (entriesOf instructions (powered c₀ powerOn)))
-  pub bytes : sets log place (entriesBytes (entriesOf rest (powered c v))) ≡ sets log₀ 0 (entriesBytes (entriesOf instructions (powered c₀ powerOn)))
+  pub placed : place + length (entriesBytes zoned (entriesOf rest (powered c v))) ≡ length (entriesBytes zoned (entriesOf instructions (powered c₀ powerOn)))
+  pub bytes : sets log place (entriesBytes zoned (entriesOf rest (powered c v)))
+      ≡ sets log₀ 0 (entriesBytes zoned (entriesOf instructions (powered c₀ powerOn)))
 
 pub going-start : (s : List ℕ) (start count : ℕ) (c log : List ℕ) (v : State) → v ≡ powerOn → RecordsReady s start count c log
     → Going s start count c log start 0 count c v log
@@ -176,7 +217,7 @@ module _ (s : List ℕ) (start count : ℕ) (c₀ log₀ : List ℕ) (at place l
     next : First (left - 1) s at (g .rest) (recordsEnd (length s))
     next = read-first (left - 1) s at (g .rest) (recordsEnd (length s)) (ap (λ (n : ℕ). readFrom n s at) (sym one-fewer) ∙ g .left-reads)
 
-    next-room : place + (3 + fullAnswer at88sc1608 (next .command)) ≤ length log
+    next-room : place + fullEntry (next .command) < length log
     next-room = let q = ap fullTotal (next .list) in let r = g .room in omega arith
 
     pub going-ready : EntryReady (partAt s at) (powered c v) log place
@@ -201,25 +242,22 @@ module _ (s : List ℕ) (start count : ℕ) (c₀ log₀ : List ℕ) (at place l
         pub going-forth : at + e ≤ recordsEnd (length s)
         going-forth = let p = next-size in let w = next-within s at (next .command) (next .size) (next .next) in omega arith
 
-    -- its entry ends within the log
-    module _ (c′ : List ℕ) (v′ : State) (a : ℕ) (log′ : List ℕ) (written : EntryWritten (partAt s at) (powered c v) log place c′ v′ a log′) where
+    module _ (c′ : List ℕ) (v′ : State) (end : ℕ) (log′ : List ℕ) (written : EntryWritten (partAt s at) (powered c v) log place c′ v′ end log′) where
       abbrev k : Instruction
       k = next .command
 
       instruction-same : written .instruction ≡ k
       instruction-same = let q : whole (written .instruction) (written .size) ≡ whole k (next .size) = sym (written .decodes) ∙ next .next in cc
 
-      answer-same : a ≡ length (logged (powered c v) k .response)
-      answer-same = written .length-is ∙ ap (λ (x : Instruction). length (logged (powered c v) x .response)) instruction-same
+      end-same : end ≡ place + length (entryBytes zoned (logged (powered c v) k))
+      end-same = written .end-is ∙ ap (λ (x : Instruction). place + length (entryBytes zoned (logged (powered c v) x))) instruction-same
 
-      answer-most : a ≤ fullAnswer at88sc1608 k
-      answer-most = let q = answer-same in let l = given-answer at88sc1608 c v k in let g = given-most at88sc1608 v k in omega arith
-
-      pub going-room : place + (3 + a) ≤ length log
-      going-room = let q = answer-most in let r = next-room in omega arith
+      -- the entry is not longer than in full
+      end-most : end ≤ place + fullEntry k
+      end-most = let q = end-same in let l = entry-length (powered c v) k in let g = given-most at88sc1608 v k in omega arith
 
       pub going-next : (h : Head) → h ≡ headOf (partAt s at) → (e : ℕ) → e ≡ 1 + fixedFields (h .kind) + dataLength (h .kind) (h .n)
-          → Going s start count c₀ log₀ (at + e) (place + (3 + a)) (left - 1) c′ v′ log′
+          → Going s start count c₀ log₀ (at + e) end (left - 1) c′ v′ log′
       going-next h head e ends =
           record {
             instructions = g .instructions;
@@ -231,38 +269,35 @@ module _ (s : List ℕ) (start count : ℕ) (c₀ log₀ : List ℕ) (at place l
                 subst (λ (m : Powered State). Good (m .card) (m .state)) (sym same)
                 (good-after c v k (decode-ranged (partAt s at) k (next .size) (next .next)) (g .good));
             long = log-long ∙ g .long;
-            room = let t = ap fullTotal (next .list) in let r = g .room in let l = log-long in let q = answer-most in omega arith;
+            room = let t = ap fullTotal (next .list) in let r = g .room in let l = log-long in let q = end-most in omega arith;
             ends =
                 ap (λ (m : Powered State). endOf (next .others) m .card) same
                 ∙ sym (ap (λ (ks : List Instruction). endOf ks (powered c v) .card) (next .list)) ∙ g .ends;
             placed =
-                (let t = entry-long in let l = entries-split in let e = entry-place in omega arith)
-                ∙ sym (ap (λ (ks : List Instruction). place + length (entriesBytes (entriesOf ks (powered c v)))) (next .list)) ∙ g .placed;
+                (let t = entry-long in let l = entries-split in let e = end-same in omega arith)
+                ∙ sym (ap (λ (ks : List Instruction). place + length (entriesBytes zoned (entriesOf ks (powered c v)))) (next .list)) ∙ g .placed;
             bytes =
-                (λ t. sets (bytes-are t) (entry-place t) (entriesBytes (entriesOf (next .others) (same t))))
-                ∙ sets-append log place (entryBytes (logged (powered c v) k)) (entriesBytes (entriesOf (next .others) (after (powered c v) k)))
-                ∙ sym (ap (λ (ks : List Instruction). sets log place (entriesBytes (entriesOf ks (powered c v)))) (next .list)) ∙ g .bytes;
+                (λ t. sets (bytes-are t) (end-same t) (entriesBytes zoned (entriesOf (next .others) (same t))))
+                ∙ sets-append log place (entryBytes zoned (logged (powered c v) k)) (entriesBytes zoned (entriesOf (next .others) (after (powered c v) k)))
+                ∙ sym (ap (λ (ks : List Instruction). sets log place (entriesBytes zoned (entriesOf ks (powered c v)))) (next .list)) ∙ g .bytes;
           }
         where
           same : powered c′ v′ ≡ after (powered c v) k
           same = (λ t. powered (written .card t) (written .state t)) ∙ ap (after (powered c v)) instruction-same
 
-          bytes-are : log′ ≡ sets log place (entryBytes (logged (powered c v) k))
-          bytes-are = written .bytes ∙ ap (λ (x : Instruction). sets log place (entryBytes (logged (powered c v) x))) instruction-same
+          bytes-are : log′ ≡ sets log place (entryBytes zoned (logged (powered c v) k))
+          bytes-are = written .bytes ∙ ap (λ (x : Instruction). sets log place (entryBytes zoned (logged (powered c v) x))) instruction-same
 
           log-long : length log′ ≡ length log
-          log-long = ap length bytes-are ∙ length-sets log place (entryBytes (logged (powered c v) k))
+          log-long = ap length bytes-are ∙ length-sets log place (entryBytes zoned (logged (powered c v) k))
 
-          entry-place : place + (3 + a) ≡ place + length (entryBytes (logged (powered c v) k))
-          entry-place = let q = answer-same in omega arith
+          entry-long : length (entriesBytes zoned (entriesOf (next .others) (powered c′ v′)))
+              ≡ length (entriesBytes zoned (entriesOf (next .others) (after (powered c v) k)))
+          entry-long = ap (λ (m : Powered State). length (entriesBytes zoned (entriesOf (next .others) m))) same
 
-          entry-long : length (entriesBytes (entriesOf (next .others) (powered c′ v′)))
-              ≡ length (entriesBytes (entriesOf (next .others) (after (powered c v) k)))
-          entry-long = ap (λ (m : Powered State). length (entriesBytes (entriesOf (next .others) m))) same
-
-          entries-split : length (entriesBytes (entriesOf (k ∷ next .others) (powered c v)))
-              ≡ length (entryBytes (logged (powered c v) k)) + length (entriesBytes (entriesOf (next .others) (after (powered c v) k)))
-          entries-split = length-append (entryBytes (logged (powered c v) k)) (entriesBytes (entriesOf (next .others) (after (powered c v) k)))
+          entries-split : length (entriesBytes zoned (entriesOf (k ∷ next .others) (powered c v)))
+              ≡ length (entryBytes zoned (logged (powered c v) k)) + length (entriesBytes zoned (entriesOf (next .others) (after (powered c v) k)))
+          entries-split = length-append (entryBytes zoned (logged (powered c v) k)) (entriesBytes zoned (entriesOf (next .others) (after (powered c v) k)))
 
   pub going-done : left ≤ 0 → RecordsRun s start count c₀ log₀ c log place
   going-done h =
@@ -274,8 +309,8 @@ module _ (s : List ℕ) (start count : ℕ) (c₀ log₀ : List ℕ) (at place l
         card = ap (λ (ks : List Instruction). endOf ks (powered c v) .card) (sym e) ∙ g .ends;
         place-is =
             (let q : place ≡ place + 0 = omega arith in q)
-            ∙ ap (λ (ks : List Instruction). place + length (entriesBytes (entriesOf ks (powered c v)))) (sym e) ∙ g .placed;
-        bytes = ap (λ (ks : List Instruction). sets log place (entriesBytes (entriesOf ks (powered c v)))) (sym e) ∙ g .bytes;
+            ∙ ap (λ (ks : List Instruction). place + length (entriesBytes zoned (entriesOf ks (powered c v)))) (sym e) ∙ g .placed;
+        bytes = ap (λ (ks : List Instruction). sets log place (entriesBytes zoned (entriesOf ks (powered c v)))) (sym e) ∙ g .bytes;
       }
 
 -- ---- the log
@@ -309,7 +344,7 @@ module _ (s log : List ℕ) (r : LogReady s log) where
       ks = r .instructions
 
       abbrev front : List ℕ
-      front = entriesBytes (entriesOf ks (initial s))
+      front = entriesBytes zoned (entriesOf ks (initial s))
 
       abbrev final : List ℕ
       final = endOf ks (initial s) .card
@@ -320,27 +355,27 @@ module _ (s log : List ℕ) (r : LogReady s log) where
           ∙ r .reads in cc
 
       entries-is : entries ≡ length front
-      entries-is = w .place-is ∙ (λ t. length (entriesBytes (entriesOf (ks-same t) (powered (card-is t) powerOn))))
+      entries-is = w .place-is ∙ (λ t. length (entriesBytes zoned (entriesOf (ks-same t) (powered (card-is t) powerOn))))
 
       -- the entries with a card and a trailer have room
       pub entries-room : entries + leastLog ≤ length log
       entries-room = let e = entries-is in let m = entries-most ks (initial s) in let q = r .room in omega arith
 
       pub log-written : (log₂ log₃ : List ℕ) → log₂ ≡ sets log₁ entries (take cardSize card′)
-          → log₃ ≡ sets log₂ (entries + cardSize) (logTrailer entries count) → LogWritten s log (entries + leastLog) log₃
+          → log₃ ≡ sets log₂ (entries + cardSize) (logTrailer zoned entries count) → LogWritten s log (entries + leastLog) log₃
       log-written log₂ log₃ e₂ e₃ =
           record {
             instructions = ks;
             reads = r .reads;
             size-is = sizes;
             bytes =
-                e₃ ∙ (λ t. sets (second t) (third-place t) (logTrailer (entries-is t) (count-is t)))
-                ∙ sets-append log 0 (front ++ final) (logTrailer (length front) (length (entriesOf ks (initial s))))
+                e₃ ∙ (λ t. sets (second t) (third-place t) (logTrailer zoned (entries-is t) (count-is t)))
+                ∙ sets-append log 0 (front ++ final) (logTrailer zoned (length front) (length (entriesOf ks (initial s))))
                 ∙ ap (sets log 0) (append-assoc front final _);
           }
         where
           first : log₁ ≡ sets log 0 front
-          first = w .bytes ∙ (λ t. sets log 0 (entriesBytes (entriesOf (ks-same t) (powered (card-is t) powerOn))))
+          first = w .bytes ∙ (λ t. sets log 0 (entriesBytes zoned (entriesOf (ks-same t) (powered (card-is t) powerOn))))
 
           final-is : card′ ≡ final
           final-is = w .card ∙ (λ t. endOf (ks-same t) (powered (card-is t) powerOn) .card)

@@ -22,10 +22,10 @@ use sizes::LEAST_LOG;
 use sizes::TRAILER;
 use slices::copy;
 
-// The state after a record, and how long its response is.
+// The state after a record, and where its entry ends.
 pub struct Entered {
     pub state: State,
-    pub response: usize,
+    pub end: usize,
 }
 
 // helper: the record at the front of a part carried out, and its entry written. It was checked, so its head tells what it is.
@@ -39,17 +39,17 @@ fn write_entry(
 ) -> Entered
     requires { ⌜ (head ≡ headOf (now part)) × EntryReady (now part) (powered (now card) (stateOf state)) (now log) place ⌝ }
     ensures { λ r. ⌜ EntryWritten (now (part .entry)) (powered (now (card .entry)) (stateOf state)) (now (log .entry)) place
-        (now (card .exit)) (stateOf (r .state)) (r .response) (now (log .exit)) ⌝ }
+        (now (card .exit)) (stateOf (r .state)) (r .end) (now (log .exit)) ⌝ }
 {
+    let volatile = state.volatile;
+    let zone = volatile.zone.0;
     if is_ignored(state.busy, head.kind) {
-        put_header(log, place, head.kind + 128, 0);
-        return Entered { state, response: 0 };
+        let end = put_header(log, place, head.kind + 128, 0, zone);
+        return Entered { state, end };
     }
     let response = answer_length(head.kind, head.n) as usize;
-    put_header(log, place, head.kind, response);
+    let from = put_header(log, place, head.kind, response, zone);
     let end = record_length(head.kind, head.n);
-    let from = place + 3;
-    let volatile = state.volatile;
     let done = carry_out(
         card,
         volatile,
@@ -62,7 +62,7 @@ fn write_entry(
     let after = done.state;
     Entered {
         state: after,
-        response,
+        end: from + response,
     }
 }
 
@@ -81,7 +81,7 @@ fn run_records(session: &[u8], start: usize, count: usize, card: &mut [u8], log:
         let entered = write_entry(&session[at..end], head, card, state, log, place);
         state = entered.state;
         at += record_length(head.kind, head.n);
-        place += 3 + entered.response;
+        place = entered.end;
         left -= 1;
     }
     place

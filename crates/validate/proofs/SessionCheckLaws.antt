@@ -6,15 +6,21 @@ use mathlib.Core.Path.{_≡_, refl, sym, ap, _∙_}
 use native.Mathlib.Omega.{arith}
 use borrow.Author.Tests.{lt-ltb, le-ltb, le-leb, lt-leb, eq-eqb, ne-eqb}
 use lib.Dec.{eqb}
-use lib.ListN.{length}
+use lib.ListN.{length, drop}
+use lib.Seq.{getD-take, getD-drop}
 use Rattle.model.specs.Sizes.{cardSize, fuseAt, trailerSize, leastSession, greatestSession, mostRecords}
 use Rattle.model.specs.Lists.{at}
+use Rattle.model.specs.Lists as lists
 use Rattle.model.specs.At88sc1608.{at88sc1608}
+use Rattle.model.specs.Log.{zoned, headerLength}
 use Rattle.model.specs.Call.{refused, whole}
-use Rattle.model.specs.Instruction.{Instruction}
+use Rattle.model.specs.Instruction.{Instruction, kindOf}
 use Rattle.laws.specs.BusyLaws.{fullAnswer}
+use Rattle.laws.specs.EntryLaws.{header-short, fullEntry}
+use Rattle.laws.specs.ReaderLaws.{next-within}
+use Rattle.laws.specs.RecordLaws.{decode-kind}
 use Rattle.properties.specs.SessionLaws.{fullTotal}
-use Rattle.model.specs.Reader.{recordsEnd, nextOf}
+use Rattle.model.specs.Reader.{recordsEnd, partAt, nextOf}
 use Rattle.model.specs.Refusal.{sessionLength, sessionTrailer, startOutOfRange, tooManyRecords, fuseByte, bytesLeft}
 use Rattle.model.specs.Session.{startOf, countOf, frame, Read, stopped, all, more, readFrom}
 use Rattle.model.specs.Single.{isFuseByte}
@@ -100,20 +106,20 @@ plus-zero : (x : Sized) → plus 0 x ≡ x
 plus-zero (unfit n) = refl
 plus-zero (sized n) = ap sized (let e : 0 + n ≡ n = omega arith in e)
 
-plus-more : (end t : ℕ) (k : Instruction) (r : Read) → plus t (sizedOf end (more k r)) ≡ plus (t + (3 + fullAnswer at88sc1608 k)) (sizedOf end r)
+plus-more : (end t : ℕ) (k : Instruction) (r : Read) → plus t (sizedOf end (more k r)) ≡ plus (t + fullEntry k) (sizedOf end r)
 plus-more end t k (stopped n) = refl
 plus-more end t k (all ks i) = go (eqb i end)
   where
-    go : (b : Bool) → plus t (cond (not b) (unfit bytesLeft) (sized (3 + fullAnswer at88sc1608 k + fullTotal ks)))
-        ≡ plus (t + (3 + fullAnswer at88sc1608 k)) (cond (not b) (unfit bytesLeft) (sized (fullTotal ks)))
+    go : (b : Bool) → plus t (cond (not b) (unfit bytesLeft) (sized (fullEntry k + fullTotal ks)))
+        ≡ plus (t + fullEntry k) (cond (not b) (unfit bytesLeft) (sized (fullTotal ks)))
     go true =
-        ap sized (let e : t + (3 + fullAnswer at88sc1608 k + fullTotal ks) ≡ t + (3 + fullAnswer at88sc1608 k) + fullTotal ks = omega arith in e)
+        ap sized (let e : t + (fullEntry k + fullTotal ks) ≡ t + fullEntry k + fullTotal ks = omega arith in e)
     go false = refl
 
 -- what is known while records are left: the rest decides, with the entries so far
 pub record Checking (s : List ℕ) (start count at entries left : ℕ) : Type 0 where
   pub few : left ≤ count
-  pub small : entries ≤ 65538 * (count - left)
+  pub small : entries ≤ 65540 * (count - left)
   pub rest : plus entries (sizedOf (recordsEnd (length s)) (readFrom left s at)) ≡ sizedOf (recordsEnd (length s)) (readFrom count s start)
 
 pub checking-start : (s : List ℕ) (start count : ℕ) → Checking s start count start 0 count
@@ -128,16 +134,30 @@ module _ (s : List ℕ) (start count at entries left : ℕ) (p : Checking s star
     checking-refused n e =
         sym (ap (λ (m : ℕ). plus entries (sizedOf (recordsEnd (length s)) (readFrom m s at))) one-fewer ∙ rw (← e)) ∙ p .rest
 
-    pub checking-next : (k : Instruction) (n a : ℕ) → whole k n ≡ nextOf s at → a ≡ fullAnswer at88sc1608 k → a < 65536
-        → Checking s start count (at + n) (entries + (3 + a)) (left - 1)
-    checking-next k n a next answers h =
+    -- a record's kind byte stands at its place
+    module _ (k : Instruction) (n : ℕ) (next : nextOf s at ≡ whole k n) where
+      pub kind-within : at < length s
+      kind-within = let w = next-within s at k n next in omega arith
+
+      kind-at : lists.at s at ≡ kindOf k
+      kind-at =
+          let w = next-within s at k n next in
+          let z : at + 0 ≡ at = omega arith in
+          sym (decode-kind (partAt s at) k n next
+          ∙ getD-take (recordsEnd (length s) - at) (drop at s) 0 0 (omega arith) ∙ getD-drop at s 0 0 ∙ ap (lists.at s) z)
+
+    pub checking-next : (k : Instruction) (n h a : ℕ) → whole k n ≡ nextOf s at → h ≡ headerLength zoned (lists.at s at)
+        → a ≡ fullAnswer at88sc1608 k → a < 65536 → Checking s start count (at + n) (entries + (h + a)) (left - 1)
+    checking-next k n h a next header answers small =
         let f = p .few in
         let m = p .small in
+        let w = header-short zoned (lists.at s at) h header in
+        let entry : h + a ≡ fullEntry k = λ i. (header ∙ ap (headerLength zoned) (kind-at k n (sym next))) i + answers i in
         record {
           few = omega arith;
           small = let e : count - (left - 1) ≡ count - left + 1 = omega arith in omega arith;
           rest =
-              ap (λ (x : ℕ). plus (entries + (3 + x)) (sizedOf (recordsEnd (length s)) (readFrom (left - 1) s (at + n)))) answers
+              ap (λ (x : ℕ). plus (entries + x) (sizedOf (recordsEnd (length s)) (readFrom (left - 1) s (at + n)))) entry
               ∙ sym (plus-more (recordsEnd (length s)) entries k (readFrom (left - 1) s (at + n)))
               ∙ sym (ap (λ (m : ℕ). plus entries (sizedOf (recordsEnd (length s)) (readFrom m s at))) one-fewer ∙ rw (← next)) ∙ p .rest;
         }

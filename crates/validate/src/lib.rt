@@ -8,6 +8,7 @@ ghost use Rattle.model.specs.Session as model;
 ghost use Rattle.record.specs.RefusalNumber.{outcomeNumber};
 ghost use Rattle.validate.specs.Check.{checkedOf, sizedOf, checkOf};
 use access::rights::is_fuse_byte;
+use header::header_length;
 use reader::measure_at;
 use reader::records_end;
 use record::decoder::Measured;
@@ -73,8 +74,8 @@ pub fn check_records(session: &[u8], start: usize, count: usize) -> Checked
         match measure_at(session, at) {
             Measured::Refused(why) => return Checked::Refused(why),
             Measured::Whole(answer, length) => {
+                entries += header_length(true, session[at]) + answer as usize;
                 at += length;
-                entries += 3 + answer as usize;
                 left -= 1;
             }
         }

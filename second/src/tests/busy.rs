@@ -4,7 +4,7 @@
 use super::*;
 
 /// Records of every kind but 1, 13 and 14, all of which would do something on a ready card.
-fn not_heeded() -> Vec<Vec<u8>> {
+pub fn not_heeded() -> Vec<Vec<u8>> {
     let mut records: Vec<Vec<u8>> = vec![
         vec![2],
         vec![3, 5],
@@ -321,8 +321,8 @@ fn no_tries_are_told_of_what_is_ignored() {
     }
 }
 
-/// The entries of a session's log, kind, length and response, and the whole log's length.
-fn logged(session: &[u8]) -> (Vec<u8>, usize) {
+/// The entries of a session's log, as bytes, and the whole log's length.
+pub fn logged(session: &[u8]) -> (Vec<u8>, usize) {
     let mut log = vec![0xEE; 70_000];
     let length = run(session, &mut log).unwrap();
     assert!(log[length..].iter().all(|&b| b == 0xEE));
@@ -348,17 +348,17 @@ fn what_is_ignored_is_logged_with_its_kind_and_128() {
     #[rustfmt::skip]
     let entries = [
         14, 1, 0, 0,
-        5, 0, 0,
+        5, 0, 0, 0,
         14, 1, 0, 1,
-        132, 0, 0,
-        133, 0, 0,
+        132, 0, 0, 0,
+        133, 0, 0, 0,
         130, 0, 0,
         13, 0, 0,
         14, 1, 0, 1,
         136, 0, 0,
         13, 0, 0,
         14, 1, 0, 0,
-        4, 3, 0, b'n', b'e', b'w',
+        4, 3, 0, 0, b'n', b'e', b'w',
     ];
     assert_eq!(logged(&session), (entries.to_vec(), SHORTEST_LOG + entries.len()));
     let lines = "0 0E 00\n1 05\n2 0E 01\n3 84\n4 85\n5 82\n6 0D\n7 0E 01\n8 88\n9 0D\n10 0E 00\n\
@@ -371,11 +371,11 @@ fn every_kind_is_logged_as_it_was_met() {
     for record in not_heeded() {
         let ready = Author::new(7).record(&record).session();
         assert_eq!(logged(&ready).0[0], record[0]);
-        let busy = Author::new(7).write(0, &[1]).record(&record).session();
-        assert_eq!(logged(&busy).0, [5, 0, 0, record[0] + 128, 0, 0]);
+        let busy = Author::new(7).begin().record(&record).session();
+        assert_eq!(logged(&busy).0[..6], [11, 0, 0, record[0] + 128, 0, 0]);
     }
     for record in [&[1][..], &[13, 1], &[14]] {
-        let busy = Author::new(7).write(0, &[1]).record(record).session();
+        let busy = Author::new(7).begin().record(record).session();
         assert_eq!(logged(&busy).0[3], record[0]);
     }
 }
@@ -396,12 +396,14 @@ fn sessions_start_ready_and_power_ends_it() {
 
 #[test]
 fn log_space_is_judged_as_if_all_were_answered() {
-    let ignored = [(vec![4, 0, 0], 256), (vec![2], 4), (vec![6, 0, 128], 128), (vec![8], 1)];
-    for (record, response) in ignored {
+    // What an entry has without its response, and how long that would be.
+    let ignored =
+        [(vec![4, 0, 0], 4, 256), (vec![2], 3, 4), (vec![6, 0, 128], 3, 128), (vec![8], 3, 1)];
+    for (record, entry, response) in ignored {
         for times in 1..4 {
-            let author = Author::new(7).write(0, &[1]);
+            let author = Author::new(7).begin();
             let session = author.times(times, |a| a.record(&record)).session();
-            let written = SHORTEST_LOG + ENTRY_HEADER * (1 + times);
+            let written = SHORTEST_LOG + ENTRY_HEADER + entry * times;
             let full = written + response * times;
             assert_eq!(check(&session).map(|c| c.log_space), Ok(full));
             for space in [0, SHORTEST_LOG, written - 1, written, full - 1] {
@@ -428,21 +430,14 @@ fn a_log_of_a_busy_card_is_read() {
     assert_eq!([0, 1, 3].map(answer), [Ok(&[][..]); 3]);
     assert_eq!((answer(2), answer(4)), (Ok(&[1][..]), Ok(&[6][..])));
     assert_eq!(answer(5), Err(Refusal::NoSuchAnswer));
-    assert_eq!(encoded::at88sc1608_answer(&log[..length], 1), 6 << 40);
-    assert_eq!(encoded::at88sc1608_answer(&log[..length], 2), 1 << 8 | 9 << 40);
-}
-
-/// A log with one entry: its kind and its length, zeros for its response.
-fn log_of(kind: u8, length: u16) -> Vec<u8> {
-    let entry = [&[kind][..], &length.to_le_bytes(), &vec![0; length.into()]].concat();
-    let mut trailer = [0; TRAILER];
-    log::write_trailer(&mut trailer, entry.len(), 1);
-    [&entry[..], &fresh_card(4), &trailer].concat()
+    assert_eq!(encoded::at88sc1608_answer(&log[..length], 1), 7 << 40);
+    assert_eq!(encoded::at88sc1608_answer(&log[..length], 2), 1 << 8 | 10 << 40);
 }
 
 #[test]
 fn every_kind_of_entry_has_its_lengths() {
-    for kind in 0..=255 {
+    for (kind, mark) in (0..=255).flat_map(|kind| [(kind, PLAIN), (kind, ZONED)]) {
+        let zone = (mark == ZONED && [4, 5, 132, 133].contains(&kind)).then_some(6);
         for length in (0..=300).chain([512, 0x0400, 0x8000, 0xFFFF]) {
             let fits = match kind {
                 2 => length == 4,
@@ -454,10 +449,10 @@ fn every_kind_of_entry_has_its_lengths() {
                 129..=142 => length == 0 && ![1, 13, 14].contains(&(kind - 128)),
                 _ => false,
             };
-            let log = log_of(kind, length);
-            let found = log::answer(&log, 0).map(|answer| answer.len());
-            let expected = if fits { Ok(length.into()) } else { Err(Refusal::Log) };
-            assert_eq!(found, expected, "kind {kind}, length {length}");
+            let log = log_of(&entry(kind, zone, &vec![0; length]), 1, mark);
+            let found = log::answer(&log, 0).map(<[u8]>::len);
+            let expected = if fits { Ok(length) } else { Err(Refusal::Log) };
+            assert_eq!(found, expected, "kind {kind}, length {length}, {mark:02X?}");
         }
     }
 }

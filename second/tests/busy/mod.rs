@@ -38,7 +38,8 @@ fn some_of_each() -> Vec<Vec<u8>> {
     plain.map(<[u8]>::to_vec).into_iter().chain(right).collect()
 }
 
-fn response_length(record: &[u8]) -> usize {
+/// How long the response is, if the record is answered in full.
+pub fn response_length(record: &[u8]) -> usize {
     match *record {
         [2] => 4,
         [4, _, 0] => 256,
@@ -215,7 +216,8 @@ fn every_pair_of_records_in_a_session() {
 fn log_space_at_every_length() {
     let author = Author::new(7).write(0, &[1]).read(0, 9).reset().read_configuration(0x20, 5);
     let session = author.poll().wait(10).read_fuses().session();
-    let written = SHORTEST_LOG + 7 * 3 + 1 + 1;
+    // Seven headers, two zones, two responses; three responses that are not given.
+    let written = SHORTEST_LOG + 7 * 3 + 2 + 1 + 1;
     let full = written + 9 + 4 + 5;
     for space in 0..full + 20 {
         let (result, _) = both::run(FIXED, &session, space);

@@ -4,9 +4,10 @@ use native.Mathlib.Omega.{arith}
 use borrow.Author.Needs.{needs}
 use Rattle.model.specs.Reader.{nextOf}
 use Rattle.laws.specs.ReaderLaws.{next-within}
+use Rattle.laws.specs.EntryLaws.{header-short}
 use Rattle.record.specs.DecodedRecord.{measuredOf}
 use Rattle.record.specs.HeadLaws.{refused-of, whole-of}
-use Rattle.validate.proofs.SessionCheckLaws.{Checking, checking-start, checking-refused, checking-next, checking-left, checking-done}
+use Rattle.validate.proofs.SessionCheckLaws.{Checking, checking-start, checking-refused, kind-within, checking-next, checking-left, checking-done}
 use Rattle.validate.proofs.check_records.Statement.{statement}
 use Rattle.validate.proofs.check_records.Tie as tie
 
@@ -30,27 +31,43 @@ returns c =
     let the-loop = c .before .before .before .before .before .loop in
     let loop-test = c .before .before .before .before .loop-test in
     let measure-at = c .before .before .before .measure-at in
-    checking-refused _ _ _ _ _ _ (the-loop .inv) (loop-test .taken) _ (refused-of _ _ (sym (ap measuredOf (c .before .why .given .1)) ∙ measure-at .ensures))
+    checking-refused _ _ _ _ _ _ (the-loop .inv) (loop-test .taken) _
+    (refused-of _ _ (sym (ap measuredOf (c .before .why .given .1)) ∙ measure-at .ensures))
 
 enum-known-answer : tie.Need-enum-known-answer Inv-loop μ-loop
 enum-known-answer c = search needs
 
-add-at : tie.Need-add-at Inv-loop μ-loop
-add-at c =
-    let start = c .before .before .before .before .before .before .before in
-    let the-loop = c .before .before .before .before .before .loop in
-    let measure-at = c .before .before .before .measure-at in
-    let k = whole-of _ _ (nextOf (start .args .session .now) (the-loop .at)) (sym (ap measuredOf (c .before .answer .given .1)) ∙ measure-at .ensures) in
-    let w = next-within (start .args .session .now) (the-loop .at) (k .0) (c .before .answer .given .0 .1 .0) (k .1) in omega arith
+shared-slice-read-header-length : tie.Need-shared-slice-read-header-length Inv-loop μ-loop
+shared-slice-read-header-length c =
+    let start = c .before .before .before .before .before .before .before .before in
+    let the-loop = c .before .before .before .before .before .before .loop in
+    let loop-test = c .before .before .before .before .before .loop-test in
+    let measure-at = c .before .before .before .before .measure-at in
+    let said = sym (ap measuredOf (c .before .before .answer .given .1)) ∙ measure-at .ensures in
+    let k = whole-of _ _ (nextOf (start .args .session .now) (the-loop .at)) said in
+    kind-within _ _ _ _ _ _ (the-loop .inv) (loop-test .taken) (k .0) _ (k .1)
+
+header-length-requires : tie.Need-header-length-requires Inv-loop μ-loop
+header-length-requires c κs = search needs
 
 cast-entries : tie.Need-cast-entries Inv-loop μ-loop
 cast-entries c = search needs
 
 add-entries : tie.Need-add-entries Inv-loop μ-loop
-add-entries c = search needs
+add-entries c = let h = header-short _ _ _ (c .header-length .ensures) in search needs
 
 add-entries-2 : tie.Need-add-entries-2 Inv-loop μ-loop
-add-entries-2 c = search needs
+add-entries-2 c = let h = header-short _ _ _ (c .header-length .ensures) in search needs
+
+add-at : tie.Need-add-at Inv-loop μ-loop
+add-at c =
+    let start = c .before .before .before .before .before .before .before .before .before in
+    let the-loop = c .before .before .before .before .before .before .before .loop in
+    let measure-at = c .before .before .before .before .before .measure-at in
+    let answer = c .before .before .before .answer in
+    let k = whole-of _ _ (nextOf (start .args .session .now) (the-loop .at)) (sym (ap measuredOf (answer .given .1)) ∙ measure-at .ensures) in
+    let w = next-within (start .args .session .now) (the-loop .at) (k .0) (answer .given .0 .1 .0) (k .1) in
+    omega arith
 
 sub-left : tie.Need-sub-left Inv-loop μ-loop
 sub-left c = search needs
@@ -60,11 +77,13 @@ loop-less c = search needs
 
 loop-again : tie.Need-loop-again Inv-loop μ-loop
 loop-again c =
-    let the-loop = c .before .before .before .before .before .loop in
-    let loop-test = c .before .before .before .before .loop-test in
-    let measure-at = c .before .before .before .measure-at in
-    let k = whole-of _ _ _ (sym (ap measuredOf (c .before .answer .given .1)) ∙ measure-at .ensures) in
-    checking-next _ _ _ _ _ _ (the-loop .inv) (loop-test .taken) (k .0) _ _ (sym (k .1)) (k .2) (search needs)
+    let start = c .before .before .before .before .before .before .before .before .before in
+    let the-loop = c .before .before .before .before .before .before .before .loop in
+    let loop-test = c .before .before .before .before .before .before .loop-test in
+    let measure-at = c .before .before .before .before .before .measure-at in
+    let answer = c .before .before .before .answer in
+    let k = whole-of _ _ (nextOf (start .args .session .now) (the-loop .at)) (sym (ap measuredOf (answer .given .1)) ∙ measure-at .ensures) in
+    checking-next _ _ _ _ _ _ (the-loop .inv) (loop-test .taken) (k .0) _ _ _ (sym (k .1)) (c .header-length .ensures) (k .2) (search needs)
 
 records-end-requires : tie.Need-records-end-requires Inv-loop μ-loop
 records-end-requires c κs = search needs
@@ -90,10 +109,12 @@ check-records-spec =
     enum-known-why
     returns
     enum-known-answer
-    add-at
+    shared-slice-read-header-length
+    header-length-requires
     cast-entries
     add-entries
     add-entries-2
+    add-at
     sub-left
     loop-less
     loop-again

@@ -1,41 +1,30 @@
 -- What is known before each entry is `Passing`.
 use Prim.Native.Nat.{_-_}
 use borrow.Author.Needs.{needs}
+use Rattle.model.specs.Log.{ending}
 use Rattle.log.proofs.LogCheckLaws.{Passing, passing-start, passing-next, passing-bad, passing-done}
 use Rattle.log.proofs.check.scan.Statement.{statement}
 use Rattle.log.proofs.check.scan.Tie as tie
 
 abbrev Inv-loop : tie.InvT-loop
-Inv-loop log count end number at₀ place₀ i₀ at place i = Passing log count end number i at place
+Inv-loop log zoned count end number at₀ place₀ i₀ at place i = Passing (ending zoned) log count end number i at place
 
 abbrev μ-loop : tie.MeasureT-loop
-μ-loop log count end number at₀ place₀ i₀ at place i = count - i
+μ-loop log zoned count end number at₀ place₀ i₀ at place i = count - i
 
 loop-holds : tie.Need-loop-holds Inv-loop μ-loop
-loop-holds c = passing-start _ _ _ _
+loop-holds c = passing-start _ _ _ _ _
 
-entry-ok-requires : tie.Need-entry-ok-requires Inv-loop μ-loop
-entry-ok-requires c κs = search needs
+entry-end-requires : tie.Need-entry-end-requires Inv-loop μ-loop
+entry-end-requires c κs = search needs
 
 returns : tie.Need-returns Inv-loop μ-loop
 returns c =
     let the-loop = c .before .before .before .loop in
-    passing-bad _ _ _ _ _ _ _ (the-loop .inv) _ (c .before .before .loop-test .taken) (c .before .entry-ok .ensures) (c .if1 .taken)
+    passing-bad _ _ _ _ _ _ _ _ (the-loop .inv) _ (c .before .before .loop-test .taken) (c .before .entry-end .ensures) (c .if1 .taken)
 
 kept-requires : tie.Need-kept-requires Inv-loop μ-loop
 kept-requires c κs = search needs
-
-add-at : tie.Need-add-at Inv-loop μ-loop
-add-at c = search needs
-
-add-get2 : tie.Need-add-get2 Inv-loop μ-loop
-add-get2 c = search needs
-
-get2-requires : tie.Need-get2-requires Inv-loop μ-loop
-get2-requires c κs = search needs
-
-add-at-2 : tie.Need-add-at-2 Inv-loop μ-loop
-add-at-2 c = search needs
 
 add-i : tie.Need-add-i Inv-loop μ-loop
 add-i c = search needs
@@ -45,14 +34,12 @@ loop-less c = search needs
 
 loop-again : tie.Need-loop-again Inv-loop μ-loop
 loop-again c =
-    let if1 = c .before .before .if1 in
-    let the-loop = c .before .before .before .before .before .loop in
-    let loop-test = c .before .before .before .before .loop-test in
-    let entry-ok = c .before .before .before .entry-ok in
-    passing-next _ _ _ _ _ _ _ (the-loop .inv) _ _ _ (loop-test .taken) (entry-ok .ensures) (if1 .left) (c .get2 .ensures .0) (c .before .kept .ensures)
+    let the-loop = c .before .before .before .before .loop in
+    let loop-test = c .before .before .before .loop-test in
+    passing-next _ _ _ _ _ _ _ _ (the-loop .inv) _ _ (loop-test .taken) (c .before .before .entry-end .ensures) (c .before .if1 .left) (c .kept .ensures)
 
 returns-2 : tie.Need-returns-2 Inv-loop μ-loop
-returns-2 c = passing-done _ _ _ _ _ _ _ (c .before .loop .inv) (search needs)
+returns-2 c = passing-done _ _ _ _ _ _ _ _ (c .before .loop .inv) (search needs)
 
 pub scan-spec : {M : Type 1} → statement M
 scan-spec =
@@ -61,13 +48,9 @@ scan-spec =
     Inv-loop
     μ-loop
     loop-holds
-    entry-ok-requires
+    entry-end-requires
     returns
     kept-requires
-    add-at
-    add-get2
-    get2-requires
-    add-at-2
     add-i
     loop-less
     loop-again

@@ -1,6 +1,6 @@
 -- Each return by the tests that led to it.
 use borrow.Author.Needs.{needs}
-use Rattle.log.proofs.LogCheckLaws.{too-short, no-4C, no-4F, many, no-meeting, fuses-decide}
+use Rattle.log.proofs.LogCheckLaws.{too-short, no-4C, no-ending, many, no-meeting, fuses-decide}
 use Rattle.log.proofs.find.trailer_ok.Statement.{statement}
 use Rattle.log.proofs.find.trailer_ok.Tie as tie
 
@@ -16,14 +16,17 @@ shared-slice-read-if2 c = search needs
 returns-2 : tie.Need-returns-2
 returns-2 c = search no-4C
 
-sub-if3 : tie.Need-sub-if3
-sub-if3 c = search needs
+sub-last : tie.Need-sub-last
+sub-last c = search needs
 
-shared-slice-read-if3 : tie.Need-shared-slice-read-if3
-shared-slice-read-if3 c = search needs
+shared-slice-read-last : tie.Need-shared-slice-read-last
+shared-slice-read-last c = search needs
+
+either-requires : tie.Need-either-requires
+either-requires c κs = search needs
 
 returns-3 : tie.Need-returns-3
-returns-3 c = search no-4F
+returns-3 c = search no-ending
 
 sub-get2 : tie.Need-sub-get2
 sub-get2 c = search needs
@@ -66,8 +69,9 @@ trailer-ok-spec =
     sub-if2
     shared-slice-read-if2
     returns-2
-    sub-if3
-    shared-slice-read-if3
+    sub-last
+    shared-slice-read-last
+    either-requires
     returns-3
     sub-get2
     get2-requires

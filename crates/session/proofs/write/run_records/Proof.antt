@@ -3,7 +3,7 @@ use mathlib.Core.Path.{sym, _∙_}
 use native.Mathlib.Omega.{arith}
 use borrow.Author.Needs.{needs}
 use Rattle.busy.specs.TimedState.{stateOf}
-use Rattle.session.proofs.SessionWriteLaws.{Going, going-start, going-known, going-ready, going-forth, going-room, going-next, going-done}
+use Rattle.session.proofs.SessionWriteLaws.{Going, going-start, going-known, going-ready, going-forth, going-next, going-done}
 use Rattle.session.proofs.write.run_records.Statement.{statement}
 use Rattle.session.proofs.write.run_records.Tie as tie
 
@@ -80,36 +80,6 @@ add-at c =
     let h = rw (records-end .ensures) at (head-of .ensures) in
     let w = going-forth _ _ _ _ _ _ _ _ _ _ _ (the-loop .inv) (loop-test .taken) _ h _ (c .record-length .ensures) in omega arith
 
-add-place : tie.Need-add-place Inv-loop μ-loop
-add-place c =
-    let start =
-    c .before .before .before .before .before .before .before .before .before .before .before .before
-    .before .before .before .before .before .before .before .before in
-    let records-end =
-    c .before .before .before .before .before .before .before .before .before .before .before .before
-    .before .before .before .before .records-end in
-    let the-loop = c .before .before .before .before .before .before .before .before .before .before .before .before .before .before .loop in
-    let loop-test = c .before .before .before .before .before .before .before .before .before .before .before .before .before .loop-test in
-    let write-entry = c .before .before .before .before .before .before .before .write-entry in
-    let w = going-room _ _ _ _ _ _ _ _ _ _ _ (the-loop .inv) (loop-test .taken) _ _ _ _ (rw (records-end .ensures) at (write-entry .ensures)) in
-    let l = the-loop .inv .long in
-    let b = start .good .1 .1 .1 .1 .0 .0 in omega arith
-
-add-place-2 : tie.Need-add-place-2 Inv-loop μ-loop
-add-place-2 c =
-    let start =
-    c .before .before .before .before .before .before .before .before .before .before .before .before
-    .before .before .before .before .before .before .before .before in
-    let records-end =
-    c .before .before .before .before .before .before .before .before .before .before .before .before
-    .before .before .before .before .records-end in
-    let the-loop = c .before .before .before .before .before .before .before .before .before .before .before .before .before .before .loop in
-    let loop-test = c .before .before .before .before .before .before .before .before .before .before .before .before .before .loop-test in
-    let write-entry = c .before .before .before .before .before .before .before .write-entry in
-    let w = going-room _ _ _ _ _ _ _ _ _ _ _ (the-loop .inv) (loop-test .taken) _ _ _ _ (rw (records-end .ensures) at (write-entry .ensures)) in
-    let l = the-loop .inv .long in
-    let b = start .good .1 .1 .1 .1 .0 .0 in omega arith
-
 sub-left : tie.Need-sub-left Inv-loop μ-loop
 sub-left c = search needs
 
@@ -118,15 +88,13 @@ loop-less c = search needs
 
 loop-again : tie.Need-loop-again Inv-loop μ-loop
 loop-again c =
-    let records-end =
-    c .before .before .before .before .before .before .before .before .before .before .before .before
-    .before .before .before .before .records-end in
-    let the-loop = c .before .before .before .before .before .before .before .before .before .before .before .before .before .before .loop in
-    let loop-test = c .before .before .before .before .before .before .before .before .before .before .before .before .before .loop-test in
-    let head-of = c .before .before .before .before .before .before .before .before .before .before .before .head-of in
-    let write-entry = c .before .before .before .before .before .before .before .write-entry in
+    let records-end = c .before .before .before .before .before .before .before .before .before .before .before .before .before .before .before .records-end in
+    let the-loop = c .before .before .before .before .before .before .before .before .before .before .before .before .before .loop in
+    let loop-test = c .before .before .before .before .before .before .before .before .before .before .before .before .loop-test in
+    let head-of = c .before .before .before .before .before .before .before .before .before .before .head-of in
+    let write-entry = c .before .before .before .before .before .before .write-entry in
     going-next _ _ _ _ _ _ _ _ _ _ _ (the-loop .inv) (loop-test .taken) _ _ _ _ (rw (records-end .ensures) at (write-entry .ensures))
-    _ (rw (records-end .ensures) at (head-of .ensures)) _ (c .before .record-length .ensures)
+    _ (rw (records-end .ensures) at (head-of .ensures)) _ (c .record-length .ensures)
 
 same-length : tie.Need-same-length Inv-loop μ-loop
 same-length c =
@@ -158,8 +126,6 @@ run-records-spec =
     write-entry-requires
     record-length-requires
     add-at
-    add-place
-    add-place-2
     sub-left
     loop-less
     loop-again

@@ -2,7 +2,7 @@
 use mathlib.Core.Path.{refl}
 use native.Mathlib.Omega.{arith}
 use borrow.Author.Needs.{needs}
-use Rattle.session.proofs.SessionWriteLaws.{entry-known, entry-ignored, entry-ready, entry-written}
+use Rattle.session.proofs.SessionWriteLaws.{entry-known, header-room, response-room, entry-ignored, entry-ready, entry-written}
 use Rattle.session.proofs.write.write_entry.Statement.{statement}
 use Rattle.session.proofs.write.write_entry.Tie as tie
 
@@ -11,60 +11,85 @@ is-ignored-requires c κs = search needs
 
 add-put-header : tie.Need-add-put-header
 add-put-header c =
-    let start = c .before .before .before .before .before .before .before in
+    let start = c .before .before .before .before .before .before .before .before in
     let k = entry-known _ _ _ _ (start .pre .1) _ (start .pre .0) in omega arith
 
 put-header-requires : tie.Need-put-header-requires
-put-header-requires c κs = search needs
+put-header-requires c κs =
+    let start = c .before .before .before .before .before .before .before .before in
+    header-room _ _ _ _ (start .pre .1) _ (start .pre .0)
 
 same-length : tie.Need-same-length
 same-length c = search needs
 
 returns : tie.Need-returns
 returns c =
-    let start = c .before .before .before .before .before .before .before .before .before .before in
+    let start = c .before .before .before .before .before .before .before .before .before .before .before in
     let is-ignored = c .before .before .before .before .before .before .is-ignored in
     let if1 = c .before .before .before .before .before .if1 in
-    entry-ignored _ _ _ _ (start .pre .1) _ (start .pre .0) _ (is-ignored .ensures) (if1 .taken) _ (c .before .before .put-header .ensures)
+    entry-ignored _ _ _ _ (start .pre .1) _ (start .pre .0) _ (is-ignored .ensures) (if1 .taken)
+    _ _ (c .before .before .put-header .ensures .0) (c .before .before .put-header .ensures .1)
 
 answer-length-requires : tie.Need-answer-length-requires
 answer-length-requires c κs =
-    let start = c .before .before .before .before .before in
+    let start = c .before .before .before .before .before .before in
     entry-known _ _ _ _ (start .pre .1) _ (start .pre .0)
 
 cast-response : tie.Need-cast-response
 cast-response c = search needs
 
 put-header-requires-2 : tie.Need-put-header-requires-2
-put-header-requires-2 c κs = search needs
+put-header-requires-2 c κs =
+    let start = c .before .before .before .before .before .before .before .before in
+    header-room _ _ _ _ (start .pre .1) _ (start .pre .0)
 
 record-length-requires : tie.Need-record-length-requires
 record-length-requires c κs =
-    let start = c .before .before .before .before .before .before .before .before .before .before in
+    let start = c .before .before .before .before .before .before .before .before .before .before .before in
     entry-known _ _ _ _ (start .pre .1) _ (start .pre .0)
 
-add-from : tie.Need-add-from
-add-from c = search needs
-
 sub-carry-out : tie.Need-sub-carry-out
-sub-carry-out c = search needs
+sub-carry-out c =
+    let start = c .before .before .before .before .before .before .before .before .before .before .before .before .before in
+    let answer-length = c .before .before .before .before .before .before .answer-length in
+    let put-header2 = c .before .before .before .before .put-header2 in
+    let w = response-room _ _ _ _ (start .pre .1) _ (start .pre .0) _ _ (answer-length .ensures) (put-header2 .ensures .1) in search needs
 
 part-carry-out-start : tie.Need-part-carry-out-start
-part-carry-out-start c = search needs
+part-carry-out-start c =
+    let start = c .before .before .before .before .before .before .before .before .before .before .before .before .before in
+    let answer-length = c .before .before .before .before .before .before .answer-length in
+    let put-header2 = c .before .before .before .before .put-header2 in
+    let w = response-room _ _ _ _ (start .pre .1) _ (start .pre .0) _ _ (answer-length .ensures) (put-header2 .ensures .1) in search needs
 
 part-carry-out-end : tie.Need-part-carry-out-end
-part-carry-out-end c = search needs
+part-carry-out-end c =
+    let start = c .before .before .before .before .before .before .before .before .before .before .before .before .before in
+    let answer-length = c .before .before .before .before .before .before .answer-length in
+    let put-header2 = c .before .before .before .before .put-header2 in
+    let w = response-room _ _ _ _ (start .pre .1) _ (start .pre .0) _ _ (answer-length .ensures) (put-header2 .ensures .1) in search needs
 
 carry-out-requires : tie.Need-carry-out-requires
 carry-out-requires c κs =
     let start = c .before .before .before .before .before .before .before .before .before .before .before .before .before .before in
-    let is-ignored = c .before .before .before .before .before .before .before .before .before .before .is-ignored in
-    let if1 = c .before .before .before .before .before .before .before .before .before .if1 in
-    let answer-length = c .before .before .before .before .before .before .before .before .answer-length in
-    let put-header2 = c .before .before .before .before .before .before .put-header2 in
-    let record-length = c .before .before .before .record-length in
+    let is-ignored = c .before .before .before .before .before .before .before .before .before .is-ignored in
+    let if1 = c .before .before .before .before .before .before .before .before .if1 in
+    let answer-length = c .before .before .before .before .before .before .before .answer-length in
+    let put-header2 = c .before .before .before .before .before .put-header2 in
     entry-ready _ _ _ _ (start .pre .1) _ (start .pre .0) _ (is-ignored .ensures) (if1 .left)
-    _ _ _ (answer-length .ensures) (put-header2 .ensures) (record-length .ensures) _ _ refl refl
+    _ _ _ _ (answer-length .ensures) (put-header2 .ensures .0) (put-header2 .ensures .1) (c .before .before .record-length .ensures) _ _ refl refl
+
+add-t25 : tie.Need-add-t25
+add-t25 c =
+    let start =
+    c .before .before .before .before .before .before .before .before .before .before .before .before
+    .before .before .before .before .before .before .before .before in
+    let answer-length = c .before .before .before .before .before .before .before .before .before .before .before .before .before .answer-length in
+    let put-header2 = c .before .before .before .before .before .before .before .before .before .before .before .put-header2 in
+    let w = response-room _ _ _ _ (start .pre .1) _ (start .pre .0) _ _ (answer-length .ensures) (put-header2 .ensures .1) in
+    let l = put-header2 .kept .0 in
+    let b = start .good .1 .1 .1 .1 .0 .0 in
+    omega arith
 
 same-length-2 : tie.Need-same-length-2
 same-length-2 c = search needs
@@ -77,16 +102,14 @@ returns-2 c =
     let start =
     c .before .before .before .before .before .before .before .before .before .before .before .before
     .before .before .before .before .before .before .before .before in
-    let is-ignored =
-    c .before .before .before .before .before .before .before .before .before .before .before .before
-    .before .before .before .before .is-ignored in
-    let if1 = c .before .before .before .before .before .before .before .before .before .before .before .before .before .before .before .if1 in
-    let answer-length = c .before .before .before .before .before .before .before .before .before .before .before .before .before .before .answer-length in
-    let put-header2 = c .before .before .before .before .before .before .before .before .before .before .before .before .put-header2 in
-    let record-length = c .before .before .before .before .before .before .before .before .before .record-length in
+    let is-ignored = c .before .before .before .before .before .before .before .before .before .before .before .before .before .before .before .is-ignored in
+    let if1 = c .before .before .before .before .before .before .before .before .before .before .before .before .before .before .if1 in
+    let answer-length = c .before .before .before .before .before .before .before .before .before .before .before .before .before .answer-length in
+    let put-header2 = c .before .before .before .before .before .before .before .before .before .before .before .put-header2 in
+    let record-length = c .before .before .before .before .before .before .before .before .record-length in
     let carry-out = c .before .before .before .before .before .carry-out in
     entry-written _ _ _ _ (start .pre .1) _ (start .pre .0) _ (is-ignored .ensures) (if1 .left)
-    _ _ _ (answer-length .ensures) (put-header2 .ensures) (record-length .ensures) _ _ refl refl _ _ _ _ (carry-out .ensures)
+    _ _ _ _ (answer-length .ensures) (put-header2 .ensures .0) (put-header2 .ensures .1) (record-length .ensures) _ _ refl refl _ _ _ _ (carry-out .ensures)
 
 pub write-entry-spec : {M : Type 1} → statement M
 write-entry-spec =
@@ -101,11 +124,11 @@ write-entry-spec =
     cast-response
     put-header-requires-2
     record-length-requires
-    add-from
     sub-carry-out
     part-carry-out-start
     part-carry-out-end
     carry-out-requires
+    add-t25
     same-length-2
     same-length-3
     returns-2)
