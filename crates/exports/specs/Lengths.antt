@@ -21,7 +21,7 @@ use Rattle.model.specs.Busy.{State, ignores, answeredKind}
 use Rattle.laws.specs.BusyLaws.{given-answer, given-most, triesUsed}
 use Rattle.laws.specs.Effects.{triesAfter}
 use Rattle.laws.specs.Sane.{good-check}
-use Rattle.model.specs.Log.{Ending, endingOf, zoned, Entry, LaidOut, headerLength, lengthAt, nextEntry, entryOk, entriesOk, entryPlace, countOf, offsetOf}
+use Rattle.model.specs.Log.{Ending, endingOf, zoned, Entry, LaidOut, lengthAt, nextEntry, entryOk, entriesOk, entryPlace, countOf, offsetOf}
 use Rattle.model.specs.Log.{trailerOk, validAs, placeOf, find, located}
 use Rattle.model.specs.Record.{decode}
 use Rattle.model.specs.Session.{run}

@@ -1,18 +1,17 @@
 -- Lines put piece by piece, and the lines of a log entry by entry.
-use Prim.Native.Nat.{ℕ, zero, suc, _+_, _-_, _*_, _≤_, _<_, _^_}
+use Prim.Native.Nat.{ℕ, suc, _+_, _-_, _*_, _≤_, _<_, _^_}
 use mathlib.Core.Bool.{true}
 use mathlib.Core.List.{List, [], _∷_, _++_, append-assoc, append-nil}
 use mathlib.Core.Path.{_≡_, refl, sym, ap, _∙_}
 use native.Mathlib.Omega.{arith}
 use lib.ListN.{length, take, drop, length-append, length-drop}
-use lib.Seq.{getD-take, getD-drop, length-take-le, drop-drop, take-nil, drop-nil, take-all}
+use lib.Seq.{length-take-le}
 use Rattle.model.specs.Sizes.{cardSize, fuseAt}
 use Rattle.model.specs.Device.{triesOf}
 use Rattle.model.specs.At88sc1608.{at88sc1608}
 use Rattle.model.specs.Lists.{at}
 use Rattle.laws.specs.BoolLaws.{and-left, and-right}
 use Rattle.model.specs.Log.{zoned, headerLength, countOf, offsetOf, lengthAt, responseAt, entryOk, entriesOk, trailerOk, validAs}
-use Rattle.laws.specs.EntryLaws.{header-least}
 use Rattle.properties.specs.LogLaws.{entered, Trailed, trailed}
 use Rattle.text.specs.Put.{Put}
 use Rattle.listing.specs.Ready.{EntriesReady, LogReady}

@@ -1,6 +1,6 @@
 // The lines of a listing.
 ghost use mathlib.Core.Path.{_≡_};
-ghost use Prim.Native.Nat.{_+_, _≤_, _<_, _^_};
+ghost use Prim.Native.Nat.{_+_, _<_, _^_};
 ghost use lib.ListN.{length};
 ghost use Rattle.model.specs.Lists as lists;
 ghost use Rattle.record.specs.RefusalNumber.{refusalNumber};

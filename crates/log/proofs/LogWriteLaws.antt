@@ -1,7 +1,7 @@
 -- Stores one after the other as one run of bytes.
 use Prim.Native.Nat.{ℕ, _+_}
 use mathlib.Core.Bool.{true, false}
-use mathlib.Core.List.{List, _∷_}
+use mathlib.Core.List.{List}
 use mathlib.Core.Path.{_≡_, ap, _∙_}
 use native.Mathlib.Numerals.{add-one, add-three, add-four, add-six, add-seven}
 use lib.ListN.{length, set, length-set}

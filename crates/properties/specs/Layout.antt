@@ -18,7 +18,6 @@ use Rattle.model.specs.Numbers.{bytesOf}
 use Rattle.laws.specs.NumberLaws.{bytes-number}
 use Rattle.model.specs.Log.{Ending, ending, endingOf, Entry, headerBytes, headerLength, entryBytes, entriesBytes, logTrailer, AllFit, LaidOut}
 use Rattle.model.specs.Log.{countOf, offsetOf, lengthAt, responseAt, nextEntry, entryOk, entriesOk, trailerOk, validAs, valid}
-use Rattle.laws.specs.EntryLaws.{header-least}
 use Rattle.properties.specs.LogLaws.{Entered, entered, Trailed, trailed}
 use Rattle.properties.specs.Written.{written-well, written-valid}
 
