@@ -1,9 +1,10 @@
 //! Puts sessions together: a card, free text, records and the trailer; and logs, entry by entry.
 
 use crate::card;
-use crate::layout::{AAC, CARD, CONFIGURATION, FUSES, REGISTERS, TRAILER, ZONE, ZONES};
-use crate::session;
+use crate::layout::{AAC, CARD, CONFIGURATION, FUSES, REGISTERS, ZONE, ZONES};
+use crate::session::trailer;
 use crate::volatile::Password;
+use crate::writer::Parts;
 
 /// Builds one session; each method adds to it and hands it on.
 #[derive(Clone)]
@@ -35,15 +36,6 @@ pub fn fresh_card(fuses: u8) -> Vec<u8> {
     }
     card[FUSES] = fuses;
     card
-}
-
-/// The bytes that end a session.
-pub fn trailer(start: usize, count: u16) -> [u8; TRAILER] {
-    let mut bytes = [0; TRAILER];
-    bytes[..4].copy_from_slice(&(start as u32).to_le_bytes());
-    bytes[4..6].copy_from_slice(&count.to_le_bytes());
-    bytes[6..].copy_from_slice(&session::MARK);
-    bytes
 }
 
 /// An entry of a log, with or without a byte between the length and the response.
@@ -189,6 +181,12 @@ impl Author {
 
     pub fn each_zone(self, step: impl Fn(Author, u8) -> Author) -> Author {
         (0..ZONES as u8).fold(self, step)
+    }
+
+    /// What the writer is given for this session; the free text is its title.
+    pub fn parts(&self) -> Parts<'_> {
+        let Author { card, text, records, count } = self;
+        Parts { card, title: text, records, count: (*count).into() }
     }
 
     pub fn session(self) -> Vec<u8> {

@@ -1,6 +1,6 @@
-//! The three public calls with the results of the C interface.
+//! The public calls with the results of the C interface.
 
-use crate::{command, log, refusal::Refusal, session};
+use crate::{command, log, refusal::Refusal, session, writer};
 
 /// The result of an accepted call, or the refusal's number alone.
 fn pack(result: Result<u64, Refusal>) -> u64 {
@@ -29,4 +29,16 @@ pub fn at88sc1608_command(
 pub fn at88sc1608_answer(log: &[u8], number: u64) -> u64 {
     let found = log::find(log, number);
     pack(found.map(|response| (response.len() as u64) << 8 | (response.start as u64) << 40))
+}
+
+/// Refusal + 2^8 · session length.
+pub fn at88sc1608_write_session(
+    card: &[u8],
+    title: &[u8],
+    records: &[u8],
+    count: u64,
+    session: &mut [u8],
+) -> u64 {
+    let written = writer::write_session(card, title, records, count, session);
+    pack(written.map(|length| (length as u64) << 8))
 }

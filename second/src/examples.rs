@@ -190,9 +190,25 @@ fn wrap() -> Author {
         .read(0x20, 1)
 }
 
+/// What the writer is given for its example.
+pub fn written() -> Author {
+    Author::new(6)
+        .text(b"At F = 6 write password 7 lets a note into zone 3; it is polled for and read back.")
+        .right(7)
+        .ready()
+        .select(3)
+        .write(0x00, b"a note")
+        .poll()
+        .ready()
+        .poll()
+        .read(0x00, 6)
+        .read_fuses()
+}
+
 /// Names and sessions.
 pub fn all() -> Vec<(&'static str, Vec<u8>)> {
     let paper = printed().text(b"The example printed in the paper.\n");
+    let written = written().parts().written().expect("the writer takes its example");
     [
         ("paper", paper),
         ("personalised", personalised()),
@@ -206,5 +222,7 @@ pub fn all() -> Vec<(&'static str, Vec<u8>)> {
         ("wrap", wrap()),
     ]
     .map(|(name, author)| (name, author.session()))
-    .into()
+    .into_iter()
+    .chain([("written", written)])
+    .collect()
 }

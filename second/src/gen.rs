@@ -4,13 +4,14 @@
 //! and locked doors are opened often enough to reach deep states. For stretches of records the host
 //! has the patience to wait for a busy card, or has little of it.
 
-use crate::author::{counter, entry, trailer};
+use crate::author::{counter, entry};
 use crate::command::command;
 use crate::layout::{
     AAC, CARD, CONFIGURATION, FUSES, LONGEST_SESSION, MOST_RECORDS, REGISTERS, SHORTEST_LOG,
     SHORTEST_SESSION, STATE, TRAILER, ZONE, ZONES,
 };
 use crate::log::{self, Entry, Layout, Log};
+use crate::session::trailer;
 
 /// Splitmix64.
 pub struct Rng(u64);

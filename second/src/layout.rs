@@ -29,6 +29,9 @@ pub const MOST_RECORDS: u16 = 4096;
 pub const SHORTEST_SESSION: usize = CARD + TRAILER;
 pub const LONGEST_SESSION: usize = 65_536;
 
+/// The longest title that the writer takes.
+pub const LONGEST_TITLE: usize = 255;
+
 /// The kind and the response length, with which each entry of a log begins.
 pub const ENTRY_HEADER: usize = 3;
 

@@ -20,6 +20,7 @@ pub mod refusal;
 pub mod samples;
 pub mod session;
 pub mod volatile;
+pub mod writer;
 
 #[cfg(test)]
 mod tests;

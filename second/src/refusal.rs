@@ -17,6 +17,7 @@ pub enum Refusal {
     State = 12,
     Log = 13,
     NoSuchAnswer = 14,
+    TitleLength = 15,
 }
 
 impl Refusal {

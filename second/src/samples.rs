@@ -1,13 +1,13 @@
 //! The sample sessions: every kind, every refusal a session can get, every fuse stage, every rule
 //! of access, busy cards, every zone in the log, in a fixed order.
 
-use crate::author::{counter, fresh_card, password, trailer, Author};
+use crate::author::{counter, fresh_card, password, Author};
 use crate::examples;
 use crate::layout::{
     CARD, CONFIGURATION, LOG_SPACE, LONGEST_ENTRY, LONGEST_SESSION, MOST_RECORDS, SHORTEST_SESSION,
     ZONE,
 };
-use crate::session;
+use crate::session::{self, trailer};
 
 const STAGES: [u8; 4] = [7, 6, 4, 0];
 

@@ -25,6 +25,15 @@ pub struct Checked {
     pub log_space: usize,
 }
 
+/// The bytes that end a session.
+pub fn trailer(start: usize, count: u16) -> [u8; TRAILER] {
+    let mut bytes = [0; TRAILER];
+    bytes[..4].copy_from_slice(&(start as u32).to_le_bytes());
+    bytes[4..6].copy_from_slice(&count.to_le_bytes());
+    bytes[6..].copy_from_slice(&MARK);
+    bytes
+}
+
 /// Checks a session whole, its records included.
 pub fn check(session: &[u8]) -> Result<Checked, Refusal> {
     if !(SHORTEST_SESSION..=LONGEST_SESSION).contains(&session.len()) {

@@ -1,13 +1,15 @@
 //! What the paper says in so many words: cases A–L, the edges, the printed example, each refusal
 //! by its number, the tries left, what closed bytes show, and the mistakes that are easily made.
-//! What is said of a busy card and of the zones in a log has files of its own.
+//! What is said of a busy card, of the zones in a log and of the session writer has files of its
+//! own.
 
 mod busy;
+mod writer;
 mod zones;
 
 use std::collections::{BTreeSet, HashMap};
 
-use crate::author::{counter, entry, fresh_card, log_of, password, trailer, Author};
+use crate::author::{counter, entry, fresh_card, log_of, password, Author};
 use crate::command::{command, Reply};
 use crate::layout::{
     AAC, CARD, CONFIGURATION, ENTRY_HEADER, ENTRY_ZONE, FUSES, LOG_SPACE, LONGEST_ENTRY,
@@ -17,7 +19,7 @@ use crate::layout::{
 use crate::listing::listing;
 use crate::record::Reader;
 use crate::refusal::Refusal;
-use crate::session::{check, run};
+use crate::session::{check, run, trailer};
 use crate::{edges, encoded, examples, gen, log, samples};
 
 const NONE: [u8; STATE] = [0; STATE];

@@ -1,11 +1,12 @@
 //! The proved library against the second implementation: every small case in turn, then lists of
-//! commands, sessions and log reads from the seeded generator.
+//! commands, sessions, log reads and written sessions from the seeded generator.
 //!
 //! A failure prints its seed; `SEED=n` runs the generated tests with that seed alone.
 
 mod both;
 mod busy;
 mod proved;
+mod writer;
 mod zones;
 
 use std::collections::BTreeMap;

@@ -43,7 +43,7 @@ outcomeFrom n =
     (cond (eqb n 9) refusal.BytesLeft
     (cond (eqb n 10) refusal.NoSpace
     (cond (eqb n 11) refusal.CardLength
-    (cond (eqb n 12) refusal.StateOutOfRange (cond (eqb n 13) refusal.NotALog refusal.NoSuchAnswer))))))))))))))
+    (cond (eqb n 12) refusal.StateOutOfRange (cond (eqb n 13) refusal.NotALog (cond (eqb n 14) refusal.NoSuchAnswer refusal.TitleLength)))))))))))))))
 
 active-back : (a : Active) → activeFrom (activeOf a) ≡ a
 active-back active.None = refl
@@ -69,6 +69,7 @@ refused-back refusal.CardLength = refl
 refused-back refusal.StateOutOfRange = refl
 refused-back refusal.NotALog = refl
 refused-back refusal.NoSuchAnswer = refl
+refused-back refusal.TitleLength = refl
 
 outcome-back : (o : Outcome) → outcomeFrom (outcomeNumber o) ≡ o
 outcome-back outcome.Accepted = refl

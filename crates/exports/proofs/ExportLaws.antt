@@ -14,8 +14,9 @@ use Rattle.model.specs.Refusal.{cardLength, fuseByte, stateOutOfRange}
 use Rattle.model.specs.Session.{Ran, run}
 use Rattle.model.specs.Single.{isFuseByte, checkOf, check, command}
 use Rattle.model.specs.Busy.{State}
-use Rattle.exports.specs.Exports.{result, runCall, toldRun, exportedRun, commandResult, commandCall, toldCommand, exportedCommand}
-use Rattle.exports.specs.Lengths.{response-small, run-small}
+use Rattle.model.specs.Writer.{Parts, writeSession}
+use Rattle.exports.specs.Exports.{result, runCall, toldRun, exportedRun, commandResult, commandCall, toldCommand, exportedCommand, exportedWriting}
+use Rattle.exports.specs.Lengths.{response-small, run-small, writing-small}
 use Rattle.exports.specs.StateBytes.{isState, stateOf, stateAfter}
 use Rattle.exports.specs.StateLaws.{state-long, state-range}
 
@@ -65,3 +66,12 @@ module _ (c b sent space : List ℕ) (v : State) (read : v ≡ stateOf b) (x : C
       → b′ ≡ stateAfter (x .reply .refusal) (x .reply .state) b
       → commandCall r (x .card) b′ (x .reply .space) ≡ exportedCommand c b sent space
   command-told r b′ e w = (λ i. commandCall (e i) (x .card) (w i) (x .reply .space)) ∙ ap (toldCommand b) same
+
+-- ---- a session that is written
+
+module _ (p : Parts) (space : List ℕ) (x : Ran) (written : x ≡ writeSession p space) where
+  pub session-fits : x .size ≤ 2 ^ 32
+  session-fits = let e = ap (λ (y : Ran). y .size) written in let h = writing-small p space in omega arith
+
+  pub writing-told : (r : ℕ) → r ≡ result (x .refusal) (x .size) → runCall r (x .space) ≡ exportedWriting p space
+  writing-told r e = ap (λ (n : ℕ). runCall n (x .space)) e ∙ ap toldRun written

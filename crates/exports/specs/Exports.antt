@@ -6,6 +6,7 @@ use Rattle.model.specs.Log.{Found, missing, located}
 use Rattle.model.specs.Session.{Ran, run}
 use Rattle.model.specs.Single.{command}
 use Rattle.model.specs.Busy.{State}
+use Rattle.model.specs.Writer.{Parts, writeSession}
 use Rattle.exports.specs.StateBytes.{stateOf, stateAfter}
 
 -- the refusal's number, or 0, and 2^8 times a length
@@ -14,13 +15,13 @@ result refusal n = refusal + 2 ^ 8 * n
 
 -- ---- at88sc1608_run
 
--- the result and the log space at exit
+-- the result and the lent space at exit
 pub record RunCall : Type 0 where
   pub result : ℕ
-  pub log : List ℕ
+  pub space : List ℕ
 
 abbrev pub runCall : ℕ → List ℕ → RunCall
-runCall r log = record { result = r; log = log }
+runCall r space = record { result = r; space = space }
 
 -- what the model's run tells of them
 abbrev pub toldRun : Ran → RunCall
@@ -62,3 +63,9 @@ exportedCommand card state sent response = toldCommand state (command card (stat
 abbrev pub exportedAnswer : Found → ℕ
 exportedAnswer (missing n) = n
 exportedAnswer (located from n) = 2 ^ 8 * n + 2 ^ 40 * from
+
+-- ---- at88sc1608_write_session
+
+-- the same of a session that is written, and of the space for it
+abbrev pub exportedWriting : Parts → List ℕ → RunCall
+exportedWriting p session = toldRun (writeSession p session)

@@ -1,5 +1,5 @@
 -- How large the numbers in a result can be: a response has at most 256 bytes, a log at most 4096 entries of 260 bytes, a card
--- and its trailer.
+-- and its trailer, a session 65,536 bytes.
 use Prim.Native.Nat.{ℕ, zero, suc, _+_, _*_, _≤_, _<_}
 use mathlib.Core.Bool.{true}
 use mathlib.Core.List.{List}
@@ -7,7 +7,7 @@ use mathlib.Core.Path.{_≡_, refl}
 use native.Mathlib.Nat.{le-of-suc-le-suc}
 use native.Mathlib.Omega.{arith}
 use lib.ListN.{length}
-use Rattle.model.specs.Sizes.{leastLog, mostRecords}
+use Rattle.model.specs.Sizes.{leastLog, greatestSession, mostRecords}
 use Rattle.model.specs.Lists.{at, Bytes}
 use Rattle.laws.specs.BoolLaws.{choice, and-left, and-right}
 use Rattle.model.specs.At88sc1608.{at88sc1608, counterAt, attemptsAt}
@@ -26,12 +26,15 @@ use Rattle.model.specs.Log.{trailerOk, validAs, placeOf, find, located}
 use Rattle.model.specs.Record.{decode}
 use Rattle.model.specs.Session.{run}
 use Rattle.model.specs.Single.{check, act, admit, command}
+use Rattle.model.specs.Writer.{Parts, writeSession}
 use Rattle.laws.specs.EntryLaws.{header-most}
+use Rattle.laws.specs.WriterLaws.{writable}
 use Rattle.properties.specs.LogLaws.{entered, trailed, answered}
 use Rattle.properties.specs.Written.{fits-small, entry-small, entries-small, log-length}
 use Rattle.properties.specs.SessionAcceptance.{accepted-run, run-accepted}
 use Rattle.properties.specs.TriesLeft.{at-most-eight, given-out}
-use Rattle.properties.specs.Refused.{refused-run}
+use Rattle.properties.specs.Refused.{refused-run, refused-writing}
+use Rattle.properties.specs.SessionPartsLaws.{accepted-parts}
 use Rattle.properties.specs.ReadBack.{laid-out}
 use Rattle.properties.specs.SessionLaws.{decode-logs}
 
@@ -126,3 +129,12 @@ run-small s space b = go (run s space .refusal) refl
         let a = accepted-run s space e in
         rw (run-accepted s space (a .0) (a .1)) (log-small _ _ _ (laid-out s space (a .0) b (a .1)))
     go (suc n) e = rw (refused-run s space n e) (omega arith)
+
+-- ---- a session that is written
+
+pub writing-small : (p : Parts) (space : List ℕ) → writeSession p space .size ≤ greatestSession
+writing-small p space = go (writeSession p space .refusal) refl
+  where
+    go : (n : ℕ) → writeSession p space .refusal ≡ n → writeSession p space .size ≤ greatestSession
+    go zero e = let a = accepted-parts p space e in rw (a .1) (writable p (a .0) .short)
+    go (suc n) e = rw (refused-writing p space n e) (omega arith)

@@ -1,7 +1,8 @@
-// The C interface: a session, a single command, an answer of a log. Slices pass as a pointer and a length.
+// The C interface: a session, a single command, an answer of a log, a session written. Slices pass as a pointer and a length.
 ghost use mathlib.Core.Path.{_≡_};
 ghost use Rattle.model.specs.Log as model;
-ghost use Rattle.exports.specs.Exports.{runCall, exportedRun, commandCall, exportedCommand, exportedAnswer};
+ghost use Rattle.model.specs.Writer.{parts};
+ghost use Rattle.exports.specs.Exports.{runCall, exportedRun, commandCall, exportedCommand, exportedAnswer, exportedWriting};
 use crate::result::answer_number;
 use crate::result::command_number;
 use crate::result::result_number;
@@ -12,6 +13,7 @@ use log::find::Found;
 use log::find::find;
 use record::refusal::number as refusal_number;
 use session::run;
+use writer::write_session;
 
 pub mod result;
 pub mod state;
@@ -55,4 +57,21 @@ pub extern "C" fn at88sc1608_answer(log: &[u8], number: u64) -> u64
         Found::Refused(why) => refusal_number(why) as u64,
         Found::At(from, length) => answer_number(from, length),
     }
+}
+
+// A session written: the refusal's number, or 0, and 2^8 times the session's length.
+#[no_mangle]
+pub extern "C" fn at88sc1608_write_session(
+    card: &[u8],
+    title: &[u8],
+    records: &[u8],
+    count: u64,
+    session: &mut [u8],
+) -> u64
+    ensures { λ r. ⌜ runCall r (now (session .exit))
+        ≡ exportedWriting (parts (now (card .entry)) (now (title .entry)) (now (records .entry)) count) (now (session .entry)) ⌝ }
+{
+    let written = write_session(card, title, records, count as usize, session);
+    let outcome = written.outcome;
+    result_number(outcome, written.size)
 }

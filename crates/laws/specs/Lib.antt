@@ -11,6 +11,7 @@ pub mod KindLaws
 pub mod RecordLaws
 pub mod SingleLaws
 pub mod ReaderLaws
+pub mod WriterLaws
 pub mod AccessLaws
 pub mod ReadLaws
 pub mod WordLaws

@@ -1,15 +1,15 @@
 -- Laws of lists: what is at a place of a table or of a list with one element set, and when two lists are equal.
-use Prim.Native.Nat.{ℕ, zero, suc, _+_, _≤_, _<_}
+use Prim.Native.Nat.{ℕ, zero, suc, _+_, _-_, _≤_, _<_}
 use mathlib.Core.Bool.{Bool, true, false, cond, _&&_, true≢false}
 use mathlib.Core.List.{List, [], _∷_, _++_, append-assoc, append-nil}
 use mathlib.Core.Path.{_≡_, refl, sym, ap, _∙_}
-use native.Mathlib.Nat.{not-suc-le-zero, add-zero, add-suc}
+use native.Mathlib.Nat.{not-suc-le-zero, add-zero, add-suc, sub-zero}
 use native.Mathlib.Numerals.{add-one}
 use native.Mathlib.Omega.{arith}
 use borrow.Author.Tests.{ltb-true, ltb-false, eqb-true, eqb-false, eq-eqb}
 use lib.Dec.{ltb, eqb}
 use lib.ListN.{length, take, drop, set, length-append, length-drop, List·getD-append, List·getD-eq-default}
-use lib.Seq.{getD-set-same, getD-set-other, set-out, getD-at, getD-drop, take-suc}
+use lib.Seq.{getD-set-same, getD-set-other, set-out, getD-at, getD-drop, take-suc, take-nil}
 use Rattle.model.specs.Lists.{at, tab, sameList, Bytes}
 use Rattle.laws.specs.BoolLaws.{choice, and-left, and-right}
 
@@ -65,6 +65,17 @@ tab-part l i (suc n) h =
     let d = length-drop i l in
     let e = sym (getD-drop i l n 0) in
     (λ t. tab-part l i n (omega arith) t ++ (e t ∷ [])) ∙ sym (take-suc (drop i l) n 0 (omega arith))
+
+-- the end of a front
+pub drop-take : (m n : ℕ) (l : List ℕ) → drop m (take n l) ≡ take (n - m) (drop m l)
+drop-take zero n l = ap (λ (k : ℕ). take k l) (sym (sub-zero n))
+drop-take (suc m) zero l =
+    let z : 0 - suc m ≡ 0 = omega arith in
+    sym (ap (λ (k : ℕ). take k (drop (suc m) l)) z)
+drop-take (suc m) (suc n) [] = sym (take-nil (suc n - suc m))
+drop-take (suc m) (suc n) (x ∷ xs) =
+    let z : n - m ≡ suc n - suc m = omega arith in
+    drop-take m n xs ∙ ap (λ (k : ℕ). take k (drop m xs)) z
 
 pub at-set : (c : List ℕ) (i v j : ℕ) → at (set c i v) j ≡ cond (eqb j i && ltb i (length c)) v (at c j)
 at-set c i v j = go (eqb j i) (ltb i (length c)) refl refl

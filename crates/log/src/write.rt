@@ -6,7 +6,7 @@ ghost use lib.Seq.{sets};
 ghost use Rattle.model.specs.Log.{zoned, headerBytes, headerLength, logTrailer};
 use header::names_zone;
 use record::number::put2;
-use record::number::put4;
+use trailer::put;
 
 // helper: an entry's kind, its response's length, and the zone where the kind names it; the response's place.
 pub fn put_header(log: &mut [u8], at: usize, kind: u8, response: usize, zone: u8) -> usize
@@ -27,8 +27,5 @@ pub fn put_trailer(log: &mut [u8], at: usize, offset: usize, count: usize)
     requires { ⌜ at + 8 ≤ length (now log) ⌝ }
     ensures { λ _. ⌜ now (log .exit) ≡ sets (now (log .entry)) at (logTrailer zoned offset count) ⌝ }
 {
-    put4(log, at, offset);
-    put2(log, at + 4, count);
-    log[at + 6] = 76;
-    log[at + 7] = 80;
+    put(log, at, offset, count, 76, 80);
 }

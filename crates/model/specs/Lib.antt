@@ -19,6 +19,7 @@ pub mod Single
 pub mod Reader
 pub mod Log
 pub mod Session
+pub mod Writer
 pub mod Computed
 pub mod Trials
 pub mod Cases
@@ -27,3 +28,4 @@ pub mod Attempts
 pub mod ClosedBytes
 pub mod BusyCards
 pub mod NamedZones
+pub mod WrittenSessions

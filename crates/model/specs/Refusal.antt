@@ -42,3 +42,6 @@ notALog = 13
 
 abbrev pub noSuchAnswer : ℕ
 noSuchAnswer = 14
+
+abbrev pub titleLength : ℕ
+titleLength = 15

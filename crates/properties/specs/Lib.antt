@@ -6,6 +6,8 @@ pub mod SessionConditions
 pub mod CallConditions
 pub mod AcceptedSession
 pub mod SessionSecret
+pub mod WriterConditions
+pub mod SessionParts
 -- the final statements
 pub mod SessionAcceptance
 pub mod CallAcceptance
@@ -17,6 +19,7 @@ pub mod ClosedReads
 pub mod PasswordWords
 pub mod BusyTimes
 pub mod SessionSecrecy
+pub mod SessionWriting
 -- what proves them: of sessions and of refusals
 pub mod SessionLaws
 pub mod AcceptedSessionLaws
@@ -37,3 +40,6 @@ pub mod EachRecord
 pub mod AsCalls
 pub mod Alike
 pub mod SessionSecrecyLaws
+-- of the session writer
+pub mod WriterConditionsLaws
+pub mod SessionPartsLaws

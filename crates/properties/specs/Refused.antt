@@ -6,7 +6,8 @@ use Rattle.model.specs.Busy.{State}
 use Rattle.model.specs.Call.{Call, refusing}
 use Rattle.model.specs.Single.{command}
 use Rattle.model.specs.Session.{rejected, run}
-use Rattle.properties.specs.RefusedLaws.{command-keeps, run-keeps}
+use Rattle.model.specs.Writer.{Parts, writeSession}
+use Rattle.properties.specs.RefusedLaws.{command-keeps, run-keeps, writing-keeps}
 
 -- a single command that is refused leaves the card, the state and the response space as they were
 pub refused-command : (c : List ℕ) (s : State) (x : Call) (n : ℕ) → command c s x .reply .refusal ≡ suc n
@@ -16,3 +17,7 @@ refused-command = command-keeps
 -- a session that is refused leaves the log space as it was
 pub refused-run : (s space : List ℕ) (n : ℕ) → run s space .refusal ≡ suc n → run s space ≡ rejected (suc n) space
 refused-run = run-keeps
+
+-- the session writer, when it refuses, leaves the space for the session as it was
+pub refused-writing : (p : Parts) (space : List ℕ) (n : ℕ) → writeSession p space .refusal ≡ suc n → writeSession p space ≡ rejected (suc n) space
+refused-writing = writing-keeps

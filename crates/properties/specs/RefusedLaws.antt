@@ -15,6 +15,7 @@ use Rattle.model.specs.Refusal.{bytesLeft, noSpace}
 use Rattle.model.specs.Session.{startOf, countOf, frame, Read, stopped, all, readFrom, logOf, rejected, written, ended, framed, run}
 use Rattle.model.specs.Single.{check, act, admit, command}
 use Rattle.model.specs.Busy.{State, answeredKind}
+use Rattle.model.specs.Writer.{Parts, sessionBytes, partsRefusal, placed, writeSession}
 use Rattle.properties.specs.AcceptedSession.{accepting}
 
 -- a single command
@@ -28,28 +29,38 @@ command-keeps c s x n e = go (admit c s x) e
     go (refused m) e = ap (λ (r : ℕ). record { card = c; reply = refusing r s (x .space) }) e
     go (whole k m) e = absurd (let z : ⊥ = omega arith in z)
 
+-- 10, or the bytes that are written
+number-kept : (space : List ℕ) (n m : ℕ) → m ≡ suc n → rejected m space ≡ rejected (suc n) space
+number-kept space n m q = ap (λ (r : ℕ). rejected r space) q
+
+room-kept : (space : List ℕ) (n : ℕ) (bytes : List ℕ) (t : Bool) → cond t (rejected noSpace space) (accepting bytes space) .refusal ≡ suc n
+    → cond t (rejected noSpace space) (accepting bytes space) ≡ rejected (suc n) space
+room-kept space n bytes true e = number-kept space n noSpace e
+room-kept space n bytes false e = absurd (let z : ⊥ = omega arith in z)
+
 -- a session
 pub run-keeps : (s space : List ℕ) (n : ℕ) → run s space .refusal ≡ suc n → run s space ≡ rejected (suc n) space
 unfolding run
 run-keeps s space n e = on-frame (frame s) e
   where
-    number : (m : ℕ) → m ≡ suc n → rejected m space ≡ rejected (suc n) space
-    number m q = ap (λ (r : ℕ). rejected r space) q
-
-    on-room : (log : List ℕ) (t : Bool) → cond t (rejected noSpace space) (accepting log space) .refusal ≡ suc n
-        → cond t (rejected noSpace space) (accepting log space) ≡ rejected (suc n) space
-    on-room log true e = number noSpace e
-    on-room log false e = absurd (let z : ⊥ = omega arith in z)
-
     on-end : (full : ℕ) (log : List ℕ) (t : Bool) → cond (not t) (rejected bytesLeft space) (written full log space) .refusal ≡ suc n
         → cond (not t) (rejected bytesLeft space) (written full log space) ≡ rejected (suc n) space
-    on-end full log true e = on-room log (ltb (length space) full) e
-    on-end full log false e = number bytesLeft e
+    on-end full log true e = room-kept space n log (ltb (length space) full) e
+    on-end full log false e = number-kept space n bytesLeft e
 
     on-read : (x : Read) → ended s space x .refusal ≡ suc n → ended s space x ≡ rejected (suc n) space
-    on-read (stopped m) e = number m e
+    on-read (stopped m) e = number-kept space n m e
     on-read (all ks i) e = on-end _ (logOf s ks) (eqb i (recordsEnd (length s))) e
 
     on-frame : (m : ℕ) → framed s space m .refusal ≡ suc n → framed s space m ≡ rejected (suc n) space
     on-frame zero e = on-read (readFrom (countOf s) s (startOf s)) e
-    on-frame (suc m) e = number (suc m) e
+    on-frame (suc m) e = number-kept space n (suc m) e
+
+-- the session writer
+pub writing-keeps : (p : Parts) (space : List ℕ) (n : ℕ) → writeSession p space .refusal ≡ suc n → writeSession p space ≡ rejected (suc n) space
+unfolding writeSession
+writing-keeps p space n e = on-checks (partsRefusal p) e
+  where
+    on-checks : (m : ℕ) → placed p space m .refusal ≡ suc n → placed p space m ≡ rejected (suc n) space
+    on-checks zero e = room-kept space n (sessionBytes p) (ltb (length space) (length (sessionBytes p))) e
+    on-checks (suc m) e = number-kept space n (suc m) e

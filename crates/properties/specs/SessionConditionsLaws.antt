@@ -77,7 +77,7 @@ past-frame s space false false false true e = refl
 past-frame s space false false false false true = refl
 past-frame s space false false false false false = refl
 
-full-length : (s : List ℕ) (ks : List Instruction) (j : ℕ) → readFrom (countOf s) s (startOf s) ≡ all ks j
+pub full-length : (s : List ℕ) (ks : List Instruction) (j : ℕ) → readFrom (countOf s) s (startOf s) ≡ all ks j
     → fullEntries ks (initial s) + leastLog ≡ logLength s
 full-length s ks j e = ap (λ (n : ℕ). n + leastLog) (full-total ks (initial s) ∙ records-clean (countOf s) s (startOf s) ks j e .entries)
 

@@ -22,6 +22,7 @@ refusalNumber refusal.CardLength = model.cardLength
 refusalNumber refusal.StateOutOfRange = model.stateOutOfRange
 refusalNumber refusal.NotALog = model.notALog
 refusalNumber refusal.NoSuchAnswer = model.noSuchAnswer
+refusalNumber refusal.TitleLength = model.titleLength
 
 -- none of them is 0
 pub number-some : (why : Refusal) → (n : ℕ) × (refusalNumber why ≡ suc n)
@@ -39,6 +40,7 @@ number-some refusal.CardLength = (10, refl)
 number-some refusal.StateOutOfRange = (11, refl)
 number-some refusal.NotALog = (12, refl)
 number-some refusal.NoSuchAnswer = (13, refl)
+number-some refusal.TitleLength = (14, refl)
 
 -- the number of the refusal that a call ends with, or 0
 abbrev pub outcomeNumber : Outcome → ℕ

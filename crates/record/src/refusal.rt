@@ -17,6 +17,7 @@ pub enum Refusal {
     StateOutOfRange,
     NotALog,
     NoSuchAnswer,
+    TitleLength,
 }
 
 // The number of a refusal.
@@ -38,6 +39,7 @@ pub fn number(refusal: Refusal) -> u8
         Refusal::StateOutOfRange => 12,
         Refusal::NotALog => 13,
         Refusal::NoSuchAnswer => 14,
+        Refusal::TitleLength => 15,
     }
 }
 

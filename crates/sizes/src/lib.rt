@@ -32,6 +32,9 @@ pub const LEAST_LOG: usize = CARD + TRAILER;
 
 pub const MOST_RECORDS: usize = 4096;
 
+// The longest title that the session writer takes.
+pub const MOST_TITLE: usize = 255;
+
 // What the printing program reads, a byte more than a session may have, so that a longer input is seen to be longer; its log space;
 // and a text space that always has room for the whole listing.
 pub const INPUT: usize = GREATEST_SESSION + 1;

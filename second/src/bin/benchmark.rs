@@ -14,15 +14,18 @@ use second::author::Author;
 use second::encoded;
 use second::gen::{self, Rng};
 use second::layout::MOST_RECORDS;
+use second::writer::{self, Parts};
 
 const ROUNDS: usize = 9;
 const ROUND: Duration = Duration::from_millis(40);
 
 type Run = fn(&[u8], &mut [u8]) -> u64;
 type Answer = fn(&[u8], u64) -> u64;
+type Write = fn(&[u8], &[u8], &[u8], u64, &mut [u8]) -> u64;
 
 const RUNS: [Run; 2] = [proved::at88sc1608_run, encoded::at88sc1608_run];
 const ANSWERS: [Answer; 2] = [proved::at88sc1608_answer, encoded::at88sc1608_answer];
+const WRITES: [Write; 2] = [proved::at88sc1608_write_session, encoded::at88sc1608_write_session];
 
 /// Seconds per call of `work`, over some turns.
 fn seconds(turns: u32, mut work: impl FnMut()) -> f64 {
@@ -96,6 +99,17 @@ fn log_reads(name: &str, session: &[u8], log: &mut [u8]) {
     row(name, "reads", 2.0, time);
 }
 
+/// Writes a session again from its parts.
+fn written(name: &str, session: &[u8], space: &mut [u8]) {
+    let Parts { card, title, records, count } =
+        writer::parts(session).expect("the session is sound");
+    let time = best(|side| {
+        let result = WRITES[side](card, title, black_box(records), count, space);
+        assert_eq!(black_box(result) & 0xFF, 0);
+    });
+    row(name, "sessions", 1.0, time);
+}
+
 /// 200 sessions of 60 records each, chosen one after the other by `next`.
 fn mix(next: fn(&mut Rng, &[u8], &[u8]) -> Vec<u8>) -> Vec<Vec<u8>> {
     let mut rng = Rng::new(2024);
@@ -148,4 +162,5 @@ fn main() {
     log_reads("log reads, 4,096 short records", &short, &mut log);
     log_reads("log reads, 4,096 zone reads", &zone_reads, &mut log);
     log_reads("log reads, most met while busy", &met_busy, &mut log);
+    written("4,096 short records, written", &short, &mut log);
 }

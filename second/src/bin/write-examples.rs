@@ -1,12 +1,17 @@
-//! Writes the examples and their listings into a directory.
+//! Writes the examples and their listings into a directory, and what the writer is given for its
+//! example.
 
 use std::path::Path;
-use std::{env, io};
+use std::{env, fs, io};
 
 use second::{examples, listing};
 
 fn main() -> io::Result<()> {
     let directory = env::args_os().nth(1);
     let directory = directory.ok_or_else(|| io::Error::other("usage: write-examples DIR"))?;
-    listing::write_into(Path::new(&directory), &examples::all())
+    let directory = Path::new(&directory);
+    listing::write_into(directory, &examples::all())?;
+    let written = examples::written();
+    fs::write(directory.join("written.card"), written.parts().card)?;
+    fs::write(directory.join("written.records"), written.parts().records)
 }

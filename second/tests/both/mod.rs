@@ -3,6 +3,7 @@
 //! Whatever is lent lies between guard bytes. A difference ends the test and prints the input.
 
 use second::encoded;
+use second::writer::Parts;
 
 use crate::proved;
 
@@ -127,4 +128,29 @@ pub fn answer(seed: &str, log: &[u8], number: u64) -> u64 {
     let call = format!("at88sc1608_answer with number {number}");
     agree(seed, &call, &[("log", log)], (proved, second), &[(&pl, &sl)]);
     proved
+}
+
+/// A session written by both into a space that holds these bytes; answers the result and the space.
+pub fn write_session(seed: &str, input: Parts, space: &[u8]) -> (u64, Vec<u8>) {
+    let Parts { card, title, records, count } = input;
+    let lend = || [card, title, records, space].map(Lent::new);
+    let (mut p, mut s) = (lend(), lend());
+    let [pc, pt, pr, pw] = &mut p;
+    let (pc, pt, pr) = (pc.bytes(), pt.bytes(), pr.bytes());
+    let proved = proved::at88sc1608_write_session(pc, pt, pr, count, pw.bytes());
+    let [sc, st, sr, sw] = &mut s;
+    let (sc, st, sr) = (sc.bytes(), st.bytes(), sr.bytes());
+    let second = encoded::at88sc1608_write_session(sc, st, sr, count, sw.bytes());
+    let call = format!("at88sc1608_write_session with count {count}");
+    let input = [("card", card), ("title", title), ("records", records), ("space", space)];
+    let pairs: Vec<_> = p.iter().zip(&s).collect();
+    agree(seed, &call, &input, (proved, second), &pairs);
+    for (before, after) in [card, title, records].iter().zip(&mut p) {
+        assert!(*before == after.bytes(), "what a session is written from is kept");
+    }
+    let [_, _, _, written] = &mut p;
+    untouched(proved, &[space], &mut [&mut *written]);
+    let length = (proved >> 8) as usize;
+    assert!(written.bytes()[length..] == space[length..], "slack is kept");
+    (proved, written.bytes().to_vec())
 }

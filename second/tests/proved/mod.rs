@@ -1,4 +1,4 @@
-//! The proved library's three calls, on slices.
+//! The proved library's calls, on slices.
 
 #[link(name = "exports", kind = "static")]
 extern "C" {
@@ -17,6 +17,18 @@ extern "C" {
     ) -> u64;
     #[link_name = "at88sc1608_answer"]
     fn linked_answer(log: *const u8, log_len: usize, number: u64) -> u64;
+    #[link_name = "at88sc1608_write_session"]
+    fn linked_write_session(
+        card: *const u8,
+        card_len: usize,
+        title: *const u8,
+        title_len: usize,
+        records: *const u8,
+        records_len: usize,
+        count: u64,
+        session: *mut u8,
+        session_len: usize,
+    ) -> u64;
 }
 
 pub fn at88sc1608_run(session: &[u8], log: &mut [u8]) -> u64 {
@@ -49,4 +61,27 @@ pub fn at88sc1608_command(
 pub fn at88sc1608_answer(log: &[u8], number: u64) -> u64 {
     // Sound as long as the library stays within the lengths it is given.
     unsafe { linked_answer(log.as_ptr(), log.len(), number) }
+}
+
+pub fn at88sc1608_write_session(
+    card: &[u8],
+    title: &[u8],
+    records: &[u8],
+    count: u64,
+    session: &mut [u8],
+) -> u64 {
+    // Sound as long as the library stays within the lengths it is given.
+    unsafe {
+        linked_write_session(
+            card.as_ptr(),
+            card.len(),
+            title.as_ptr(),
+            title.len(),
+            records.as_ptr(),
+            records.len(),
+            count,
+            session.as_mut_ptr(),
+            session.len(),
+        )
+    }
 }

@@ -1,0 +1,2 @@
+mod PartsCheckLaws
+mod SessionPutLaws
