@@ -41,7 +41,8 @@ many() { # COUNT BYTE: a byte, in octal, so many times
 cp "$top/examples/written.card" card
 head -c 2176 card >short-card
 (cat card && printf x) >long-card
-(head -c 2176 card && printf '\005') >five-card
+(head -c 2176 card && printf '\005\000' && tail -c 11 card) >five-card
+(head -c 2177 card && printf '\000' && tail -c 11 card) >sixteen-card
 : >none
 printf '\010\003\005' >two
 printf '\010\377' >unknown
@@ -49,9 +50,9 @@ printf '\003\010' >field
 printf '\010\003' >cut
 many 4096 010 >most
 many 4097 010 >more
-# With a card, a trailer and no title 63,351 bytes of records are the most.
-many 63351 010 >longest
-many 63352 010 >too-long
+# With a card, a trailer and no title 63,339 bytes of records are the most.
+many 63339 010 >longest
+many 63340 010 >too-long
 title=$(many 255 101)
 
 accepted card none 0
@@ -64,12 +65,13 @@ refused 11 short-card none 0
 refused 11 long-card unknown 5000 "$title$title"
 refused 1 five-card too-long 5000
 refused 1 card none 0 "$(many 70000 101)"
-refused 1 card longest 63351 A
-refused 4 five-card longest 63351
+refused 1 card longest 63339 A
+refused 4 five-card longest 63339
 refused 4 five-card more 4097 "$title$title"
 refused 4 card none 65536
 refused 4 card none 18446744073709551615
 refused 5 five-card unknown 2 "$title$title"
+refused 16 sixteen-card unknown 2 "$title$title"
 refused 15 card unknown 2 "${title}A"
 refused 6 card unknown 2 "$title"
 refused 7 card field 1

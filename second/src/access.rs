@@ -1,6 +1,6 @@
 //! Who may read or write what: fuse stages, access registers, configuration areas.
 
-use crate::volatile::{Authentication, Password, PwSet, Volatile};
+use crate::state::{Authentication, Password, PwSet, State};
 
 /// How far the fuses are blown, named by the last one blown.
 #[derive(Clone, Copy, Debug, PartialEq, Eq)]
@@ -56,11 +56,11 @@ impl Register {
         self.on(0)
     }
 
-    fn authenticated(self, state: &Volatile) -> bool {
+    fn authenticated(self, state: &State) -> bool {
         !self.authentication() || state.authentication == Authentication::Granted
     }
 
-    pub fn may_read(self, stage: Stage, state: &Volatile) -> bool {
+    pub fn may_read(self, stage: Stage, state: &State) -> bool {
         if stage == Stage::Unblown {
             return true;
         }
@@ -71,7 +71,7 @@ impl Register {
         self.authenticated(state) && (!self.read_password() || opened)
     }
 
-    pub fn may_write(self, stage: Stage, state: &Volatile) -> bool {
+    pub fn may_write(self, stage: Stage, state: &State) -> bool {
         if stage == Stage::Unblown {
             return true;
         }
@@ -79,6 +79,15 @@ impl Register {
         self.authenticated(state)
             && (!needs_password || state.active == Some(Password::Write(self.set())))
             && !self.modify_forbidden()
+    }
+
+    /// What a byte holds when it has been written over an old one.
+    pub fn stored(self, stage: Stage, old: u8, new: u8) -> u8 {
+        if stage != Stage::Unblown && self.program_only() {
+            old & new
+        } else {
+            new
+        }
     }
 }
 
@@ -127,7 +136,7 @@ pub struct Configuration {
 }
 
 impl Configuration {
-    pub fn new(stage: Stage, state: &Volatile) -> Configuration {
+    pub fn new(stage: Stage, state: &State) -> Configuration {
         Configuration { areas: &RIGHTS[stage as usize], active: state.active }
     }
 

@@ -1,9 +1,12 @@
 //! Puts sessions together: a card, free text, records and the trailer; and logs, entry by entry.
 
 use crate::card;
-use crate::layout::{AAC, CARD, CONFIGURATION, FUSES, REGISTERS, ZONE, ZONES};
+use crate::layout::{
+    AAC, CARD, CONFIGURATION, FLAG, FUSES, REGISTERS, STAGED_VALUES, STATE, ZONE, ZONES,
+};
 use crate::session::trailer;
-use crate::volatile::Password;
+use crate::staging::READY;
+use crate::state::Password;
 use crate::writer::Parts;
 
 /// Builds one session; each method adds to it and hands it on.
@@ -25,7 +28,15 @@ pub fn password(selector: u8) -> [u8; 3] {
     [0xA0 + selector, 0x5A, 0x3C]
 }
 
-/// A card with erased zones, all counters full, known passwords and open registers.
+/// The state of a card that is on, with no cut armed.
+pub fn on(first: [u8; 5]) -> [u8; STATE] {
+    let mut state = [0; STATE];
+    state[..5].copy_from_slice(&first);
+    state
+}
+
+/// A card with erased zones, all counters full, known passwords, open registers and erased staging
+/// bytes, so that there is nothing to finish.
 pub fn fresh_card(fuses: u8) -> Vec<u8> {
     let mut card = vec![0xFF; CARD];
     card[CONFIGURATION..CONFIGURATION + 4].copy_from_slice(&[0x2C, 0xAA, 0x55, 0x01]);
@@ -82,6 +93,11 @@ impl Author {
 
     pub fn put_aac(self, value: u8) -> Author {
         self.put(AAC, &[value])
+    }
+
+    /// Stages a write that is to be finished.
+    pub fn put_ready(self, zone: u8, address: u8, values: &[u8]) -> Author {
+        self.put(FLAG, &[READY, zone, address, values.len() as u8]).put(STAGED_VALUES, values)
     }
 
     pub fn text(mut self, text: &[u8]) -> Author {
@@ -168,6 +184,15 @@ impl Author {
 
     pub fn poll(self) -> Author {
         self.record(&[14])
+    }
+
+    pub fn staged_write(self, address: u8, data: &[u8]) -> Author {
+        self.with_data(&[15, address, data.len() as u8], data)
+    }
+
+    /// Arms a cut after so many cell writes, with the junk that the next cell then holds.
+    pub fn cut(self, after: u8, junk: u8) -> Author {
+        self.record(&[16, after, junk])
     }
 
     /// Reads one attempts counter.

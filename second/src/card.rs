@@ -1,12 +1,20 @@
-//! The card's bytes, and what each command does to them and to the volatile state.
+//! The card's bytes, and what each command does to them and to the state.
 
 use crate::access::{Configuration, Register, Stage};
 use crate::layout::{AAC, CARD, CONFIGURATION, CRYPTOGRAM, FUSES, PAGE, REGISTERS, ZONE};
 use crate::record::Record;
-use crate::volatile::{Authentication, Busy, Password, Volatile, Zone};
+use crate::refusal::Refusal;
+use crate::staging;
+use crate::state::{Authentication, Busy, Password, State, Zone};
 
-/// Eight zones, the configuration, the fuse byte.
+/// Eight zones, the configuration, the fuse byte, the staging bytes.
 pub type Card = [u8; CARD];
+
+/// Checks the bytes of which not every value is good.
+pub fn check(card: &Card) -> Result<(), Refusal> {
+    Stage::from_fuses(card[FUSES]).ok_or(Refusal::Fuses)?;
+    staging::is_sound(card).then_some(()).ok_or(Refusal::Staging)
+}
 
 /// Where the attempts counter of a password lies; its three bytes follow.
 pub fn counter(password: Password) -> usize {
@@ -40,20 +48,25 @@ fn clear_lowest_one(byte: u8) -> u8 {
     byte & byte.wrapping_sub(1)
 }
 
-fn stage(card: &Card) -> Stage {
+pub fn stage(card: &Card) -> Stage {
     // Cards are checked before a command runs, so another fuse byte does not come here.
     Stage::from_fuses(card[FUSES]).unwrap_or(Stage::Per)
 }
 
-fn register(card: &Card, zone: Zone) -> Register {
+pub fn register(card: &Card, zone: Zone) -> Register {
     Register(card[REGISTERS + zone.number()])
 }
 
-/// Runs one command that the card is not too busy for; `response` has the length that the record
-/// asks for.
-pub fn execute(card: &mut Card, state: &mut Volatile, record: &Record, response: &mut [u8]) {
+/// Where byte `i` of a write to a zone goes: the address counts up and wraps in its page.
+pub fn place(zone: Zone, address: u8, i: usize) -> usize {
+    let address = usize::from(address);
+    ZONE * zone.number() + address / PAGE * PAGE + (address + i) % PAGE
+}
+
+/// Runs one command that the card heeds; `response` has the length that the record asks for.
+pub fn execute(card: &mut Card, state: &mut State, record: &Record, response: &mut [u8]) {
     match *record {
-        Record::PowerCycle => *state = Volatile::POWER_UP,
+        Record::PowerCycle => staging::power_up(card, state),
         Record::Reset => {
             state.active = None;
             state.authentication = Authentication::Idle;
@@ -103,10 +116,12 @@ pub fn execute(card: &mut Card, state: &mut Volatile, record: &Record, response:
         }
         Record::Wait { milliseconds } => state.busy = state.busy.after(milliseconds),
         Record::Poll => response[0] = u8::from(!state.busy.is_ready()),
+        Record::StagedWrite { address, data } => staging::write(card, state, address, data),
+        Record::ArmCut(cut) => state.armed = Some(cut),
     }
 }
 
-fn read_zone(card: &Card, state: &Volatile, address: u8, response: &mut [u8]) {
+fn read_zone(card: &Card, state: &State, address: u8, response: &mut [u8]) {
     if !register(card, state.zone).may_read(stage(card), state) {
         // A forbidden byte of a zone answers F; one of the configuration answers 0.
         response.fill(card[FUSES]);
@@ -121,7 +136,7 @@ fn read_zone(card: &Card, state: &Volatile, address: u8, response: &mut [u8]) {
     rolled_over.copy_from_slice(&zone[..rolled_over.len()]);
 }
 
-fn write_zone(card: &mut Card, state: &mut Volatile, address: u8, data: &[u8]) {
+fn write_zone(card: &mut Card, state: &mut State, address: u8, data: &[u8]) {
     // What may not be written takes its time too.
     state.busy = Busy::WRITING;
     let register = register(card, state.zone);
@@ -129,17 +144,13 @@ fn write_zone(card: &mut Card, state: &mut Volatile, address: u8, data: &[u8]) {
     if !register.may_write(stage, state) {
         return;
     }
-    let and_only = stage != Stage::Unblown && register.program_only();
-    let address = usize::from(address);
-    let base = ZONE * state.zone.number() + address / PAGE * PAGE;
-    let page = &mut card[base..base + PAGE];
     for (i, &new) in data.iter().enumerate() {
-        let byte = &mut page[(address + i) % PAGE];
-        *byte = if and_only { *byte & new } else { new };
+        let byte = &mut card[place(state.zone, address, i)];
+        *byte = register.stored(stage, *byte, new);
     }
 }
 
-fn read_configuration(card: &Card, state: &Volatile, address: u8, response: &mut [u8]) {
+fn read_configuration(card: &Card, state: &State, address: u8, response: &mut [u8]) {
     let rights = Configuration::new(stage(card), state);
     let from = usize::from(address);
     for (i, answer) in response.iter_mut().enumerate() {
@@ -147,7 +158,7 @@ fn read_configuration(card: &Card, state: &Volatile, address: u8, response: &mut
     }
 }
 
-fn write_configuration(card: &mut Card, state: &mut Volatile, address: u8, data: &[u8]) {
+fn write_configuration(card: &mut Card, state: &mut State, address: u8, data: &[u8]) {
     state.busy = Busy::WRITING;
     let rights = Configuration::new(stage(card), state);
     let address = usize::from(address);
@@ -160,7 +171,7 @@ fn write_configuration(card: &mut Card, state: &mut Volatile, address: u8, data:
     }
 }
 
-fn verify_password(card: &mut Card, state: &mut Volatile, password: Password, bytes: [u8; 3]) {
+fn verify_password(card: &mut Card, state: &mut State, password: Password, bytes: [u8; 3]) {
     let at = counter(password);
     if card[at] == 0 {
         return;

@@ -2,10 +2,11 @@
 
 use crate::author::Author;
 use crate::layout::{
-    CONFIGURATION, ENTRY_HEADER, FUSES, LOG_SPACE, LONGEST_SESSION, MOST_RECORDS, SHORTEST_LOG,
-    ZONE, ZONES,
+    CONFIGURATION, ENTRY_HEADER, FLAG, FUSES, LOG_SPACE, LONGEST_SESSION, MOST_RECORDS,
+    MOST_STAGED, SHORTEST_LOG, STAGED_LENGTH, STAGED_ZONE, ZONE, ZONES,
 };
 use crate::session;
+use crate::staging::READY;
 
 /// A card whose zones hold bytes that tell their places apart.
 fn marked() -> Author {
@@ -16,10 +17,11 @@ fn marked() -> Author {
     })
 }
 
-/// Record `k` of a list that goes through the kinds in turn and waits for the card.
+/// Record `k` of a list that goes through the kinds in turn and waits for the card. The cuts that it
+/// arms do not come.
 fn kind_in_turn(author: Author, k: u16) -> Author {
-    let byte = (k / 18) as u8;
-    match k % 18 {
+    let byte = (k / 21) as u8;
+    match k % 21 {
         0 => author.reset(),
         1 => author.select(byte % ZONES as u8),
         2 => author.write(byte, &[byte; 16]),
@@ -33,14 +35,16 @@ fn kind_in_turn(author: Author, k: u16) -> Author {
         14 => author.poll(),
         16 => author.verdict(byte % 2, b"verdicts"),
         17 => author.power(),
+        18 => author.cut(15, byte),
+        19 => author.staged_write(byte, &[byte; 5]),
         _ => author.ready(),
     }
 }
 
-/// Record `k` of a list in which the kinds meet a busy card in turn.
+/// Record `k` of a list in which the kinds meet a busy card in turn, and some meet one that is off.
 fn busy_in_turn(author: Author, k: u16) -> Author {
-    let byte = (k / 15) as u8;
-    match k % 15 {
+    let byte = (k / 22) as u8;
+    match k % 22 {
         0 => author.power(),
         1 => author.write(byte, &[byte; 16]),
         2 => author.reset(),
@@ -55,7 +59,14 @@ fn busy_in_turn(author: Author, k: u16) -> Author {
         11 => author.verdict(byte % 2, b"verdicts"),
         12 => author.write(!byte, &[!byte; 16]),
         13 => author.poll(),
-        _ => author.wait(9),
+        14 => author.wait(9),
+        15 => author.staged_write(byte, &[byte; 8]),
+        16 => author.cut(byte % 21, byte),
+        17 => author.wait(1),
+        18 => author.staged_write(!byte, &[!byte; 8]),
+        19 => author.poll(),
+        20 => author.wait(10),
+        _ => author.staged_write(byte, &[byte; 8]),
     }
 }
 
@@ -103,6 +114,8 @@ fn padded(author: Author, length: usize) -> Vec<u8> {
 /// Names and sessions.
 pub fn all() -> Vec<(&'static str, Vec<u8>)> {
     let least = Author::new(7).session();
+    let ready = Author::new(7).put_ready(ZONES as u8 - 1, 0xFF, &[0; MOST_STAGED]).power();
+    let other = |place, byte| ready.clone().put(place, &[byte]).session();
     let full = most_records(kind_in_turn, LOG_SPACE);
     let busy = |space| padded(most_records(busy_in_turn, space), LONGEST_SESSION);
     vec![
@@ -116,5 +129,9 @@ pub fn all() -> Vec<(&'static str, Vec<u8>)> {
         ("busy-greatest", busy(LOG_SPACE)),
         ("busy-log-byte-more", busy(LOG_SPACE + 1)),
         ("longest-listing", longest_listing().session()),
+        ("ready", ready.clone().session()),
+        ("ready-zone-more", other(STAGED_ZONE, ZONES as u8)),
+        ("ready-length-more", other(STAGED_LENGTH, MOST_STAGED as u8 + 1)),
+        ("flag-below-ready", other(FLAG, READY - 1)),
     ]
 }

@@ -159,6 +159,33 @@ fn zones() -> Author {
         .read(0x00, 1)
 }
 
+fn torn() -> Author {
+    Author::new(0)
+        .text(b"A staged write that is cut is finished by power-up; cut before its flag, it is lost.\n")
+        .put_zone(0, 0, b"old note")
+        .read(0x00, 8)
+        // Twelve cells stage the write and raise its flag, three more are the zone's.
+        .cut(15, b'?')
+        .staged_write(0x00, b"new note")
+        .read(0x00, 8)
+        .poll()
+        // Power comes back, and is cut again in the finishing.
+        .cut(3, b'?')
+        .power()
+        .read(0x00, 8)
+        .power()
+        .read(0x00, 8)
+        // The flag is the twelfth cell.
+        .cut(10, b'?')
+        .staged_write(0x00, b"lost one")
+        .read(0x00, 8)
+        .power()
+        .read(0x00, 8)
+        .staged_write(0x00, b"last one")
+        .ready()
+        .read(0x00, 8)
+}
+
 fn refused() -> Author {
     Author::new(7)
         .text(b"The second record writes 17 bytes, so the whole session is refused with 7.\n")
@@ -218,6 +245,7 @@ pub fn all() -> Vec<(&'static str, Vec<u8>)> {
         ("tries", tries()),
         ("busy", busy()),
         ("zones", zones()),
+        ("torn", torn()),
         ("refused", refused()),
         ("wrap", wrap()),
     ]

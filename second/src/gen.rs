@@ -2,16 +2,19 @@
 //!
 //! Records are chosen with the current card and state in view, so that right passwords are right
 //! and locked doors are opened often enough to reach deep states. For stretches of records the host
-//! has the patience to wait for a busy card, or has little of it.
+//! has the patience to wait for a busy card, or has little of it. Power is cut now and then, and
+//! comes back.
 
 use crate::author::{counter, entry};
 use crate::command::command;
 use crate::layout::{
-    AAC, CARD, CONFIGURATION, FUSES, LONGEST_SESSION, MOST_RECORDS, REGISTERS, SHORTEST_LOG,
-    SHORTEST_SESSION, STATE, TRAILER, ZONE, ZONES,
+    AAC, CARD, CONFIGURATION, FLAG, FUSES, LONGEST_SESSION, MOST_RECORDS, MOST_STAGED, REGISTERS,
+    SHORTEST_LOG, SHORTEST_SESSION, STAGED_ADDRESS, STAGED_LENGTH, STAGED_ZONE, STATE, TRAILER,
+    ZONE, ZONES,
 };
-use crate::log::{self, Entry, Layout, Log};
+use crate::log::{Entry, Log};
 use crate::session::trailer;
+use crate::staging::{IDLE, READY};
 
 /// Splitmix64.
 pub struct Rng(u64);
@@ -56,9 +59,11 @@ fn counter_value(rng: &mut Rng) -> u8 {
     rng.pick(&[0xFF, 0xFF, 0xFF, 0xF0, 0x80, 0x01, 0x00, 0xA5, any, any, any])
 }
 
-/// A card with fuses of a stage; registers, counters and passwords of many patterns.
+/// A card with fuses of a stage; registers, counters and passwords of many patterns; and nothing to
+/// finish.
 pub fn card(rng: &mut Rng) -> Vec<u8> {
-    let mut card = rng.bytes(CARD);
+    let mut card = rng.bytes(FLAG);
+    card.resize(CARD, IDLE);
     card[FUSES] = rng.pick(&[7, 6, 4, 0, 0]);
     let shared_set = rng.chance(30).then(|| rng.byte() & 0x1C);
     for zone in 0..ZONES {
@@ -86,6 +91,29 @@ pub fn card(rng: &mut Rng) -> Vec<u8> {
     card
 }
 
+/// The same with any staging bytes, sometimes with a write to finish.
+pub fn staged_card(rng: &mut Rng) -> Vec<u8> {
+    let mut card = card(rng);
+    card[STAGED_ZONE..].copy_from_slice(&rng.bytes(CARD - STAGED_ZONE));
+    if rng.chance(12) {
+        card[FLAG] = READY;
+        card[STAGED_ZONE] &= 7;
+        card[STAGED_ADDRESS] = address(rng);
+        card[STAGED_LENGTH] = rng.below(MOST_STAGED + 1) as u8;
+    }
+    card
+}
+
+/// Gives a card staging bytes that no card has.
+pub fn damage_staging(rng: &mut Rng, card: &mut [u8]) {
+    card[FLAG] = READY;
+    match rng.below(3) {
+        0 => card[FLAG] = rng.pick(&[0x00, 0x01, 0x7E, 0x7F, 0xEF, 0xFC, 0xFD]),
+        1 => card[STAGED_ZONE] = rng.pick(&[8, 9, 15, 16, 128, 255]),
+        _ => card[STAGED_LENGTH] = rng.pick(&[9, 10, 16, 128, 255]),
+    }
+}
+
 /// What keeps the zone closed in which two sealed cards differ.
 #[derive(Clone, Copy, Debug)]
 pub enum Closed {
@@ -94,10 +122,14 @@ pub enum Closed {
 }
 
 /// Two sealed cards that differ only in what is closed: zone 2, and the passwords of its set, 5.
+/// They have nothing to finish.
 pub fn sealed_pair(rng: &mut Rng, closed: Closed) -> [Vec<u8>; 2] {
-    let mut card = card(rng);
+    let mut card = staged_card(rng);
+    card[FLAG] = IDLE;
     card[FUSES] = 0;
     let any = rng.byte() & 0xE3 | 5 << 2;
+    // Half of the zones may be written, if not read.
+    let any = if rng.chance(50) { any | 0xA2 } else { any };
     let mut other = card.clone();
     other[2 * ZONE..3 * ZONE].copy_from_slice(&rng.bytes(ZONE));
     let register = match closed {
@@ -125,29 +157,44 @@ pub fn opens(closed: Closed, record: &[u8]) -> bool {
 
 /// A state that stands for something.
 pub fn state(rng: &mut Rng) -> [u8; STATE] {
-    let zone = rng.byte() & 7;
-    let authentication = rng.pick(&[0, 1, 2, 2]);
-    let any = rng.byte() % 11;
-    let busy = rng.pick(&[0, 0, 0, 1, 10, any]);
-    if rng.chance(20) {
-        [zone, 0, 0, authentication, busy]
-    } else {
+    let mut state = [0; STATE];
+    state[0] = rng.byte() & 7;
+    if rng.chance(80) {
         let any = rng.byte() & 15;
-        [zone, 1, rng.pick(&[7, any, any]), authentication, busy]
+        (state[1], state[2]) = (1, rng.pick(&[7, any, any]));
     }
+    state[3] = rng.pick(&[0, 1, 2, 2]);
+    let any = rng.byte() % 11;
+    state[4] = rng.pick(&[0, 0, 0, 1, 10, any]);
+    state[5] = u8::from(rng.chance(15));
+    if rng.chance(30) {
+        state[6] = 1;
+        state[7..].copy_from_slice(&cut(rng));
+    }
+    state
+}
+
+/// After how many cell writes a cut comes, and its junk.
+fn cut(rng: &mut Rng) -> [u8; 2] {
+    let any = rng.byte();
+    let after = rng.pick(&[any % 5, any % 10, any % 24, any % 24, any]);
+    [after, rng.pick(&[0x00, 0x01, 0xFE, 0xFF, any])]
 }
 
 /// A state that stands for nothing.
 pub fn damaged_state(rng: &mut Rng) -> Vec<u8> {
     let mut state = state(rng).to_vec();
-    match rng.below(7) {
+    match rng.below(10) {
         0 => state[0] = rng.pick(&[8, 16, 128, 255]),
         1 => state[1] = rng.pick(&[2, 3, 128, 255]),
         2 => (state[1], state[2]) = (0, rng.pick(&[1, 7, 15, 16, 255])),
         3 => (state[1], state[2]) = (1, rng.pick(&[16, 23, 32, 128, 255])),
         4 => state[3] = rng.pick(&[3, 4, 128, 255]),
         5 => state[4] = rng.pick(&[11, 12, 20, 128, 255]),
-        _ => state.resize(rng.pick(&[0, 1, 4, 6, 8]), 0),
+        6 => state[5] = rng.pick(&[2, 3, 128, 255]),
+        7 => state[6] = rng.pick(&[2, 3, 128, 255]),
+        8 => (state[6], state[7 + rng.below(2)]) = (0, rng.pick(&[1, 2, 128, 255])),
+        _ => state.resize(rng.pick(&[0, 1, 4, 5, 6, 8, 10, 18]), 0),
     }
     state
 }
@@ -236,6 +283,11 @@ fn of_kind(rng: &mut Rng, card: &[u8], state: &[u8], kind: u8) -> Vec<u8> {
         }
         12 => [&[12, rng.byte() & 1][..], &rng.bytes(8)].concat(),
         13 => vec![13, 1 + rng.byte() % 20],
+        15 => {
+            let count = 1 + rng.below(MOST_STAGED);
+            [&[15, address(rng), count as u8], &rng.bytes(count)[..]].concat()
+        }
+        16 => [&[16][..], &cut(rng)].concat(),
         kind => vec![kind],
     }
 }
@@ -264,6 +316,30 @@ pub fn patience(rng: &mut Rng) -> usize {
 
 /// A sound record, chosen for this card and state by a host of this patience.
 pub fn record(rng: &mut Rng, card: &[u8], state: &[u8], patience: usize) -> Vec<u8> {
+    let record = of_first_fourteen(rng, card, state, patience);
+    or_torn(rng, card, state, record)
+}
+
+/// The record, or what a host sends instead that expects cuts: power where it is missing, another
+/// cut, a staged write.
+fn or_torn(rng: &mut Rng, card: &[u8], state: &[u8], record: Vec<u8>) -> Vec<u8> {
+    let torn = state[5] == 1 || card[FLAG] == READY;
+    let staged = matches!(record[..], [5, _, 1..=8, ..]);
+    let armed = state[6] == 1 && state[4] == 0;
+    match rng.below(100) {
+        0..35 if torn => vec![1],
+        35..60 if torn => of_kind(rng, card, state, 16),
+        60..65 if torn => of_kind(rng, card, state, 13),
+        65..70 if torn => of_kind(rng, card, state, 14),
+        0..40 if staged => [&[15][..], &record[1..]].concat(),
+        0..30 if armed => of_kind(rng, card, state, 15),
+        95.. => of_kind(rng, card, state, 16),
+        _ => record,
+    }
+}
+
+/// A sound record of kinds 1 to 14, chosen for this card and state.
+pub fn of_first_fourteen(rng: &mut Rng, card: &[u8], state: &[u8], patience: usize) -> Vec<u8> {
     if state[4] > 0 && rng.chance(patience) {
         return pastime(rng, state[4]);
     }
@@ -300,14 +376,15 @@ fn zone_record(rng: &mut Rng, card: &[u8], state: &[u8], patience: usize) -> Vec
         return pastime(rng, state[4]);
     }
     let kind = rng.pick(&[1, 2, 3, 3, 3, 3, 4, 4, 4, 4, 5, 5, 5, 6, 7]);
-    of_kind(rng, card, state, kind)
+    let record = of_kind(rng, card, state, kind);
+    or_torn(rng, card, state, record)
 }
 
 /// A record with something wrong: its kind, a field, its length.
 pub fn damaged_record(rng: &mut Rng, record: &[u8]) -> Vec<u8> {
     let mut record = record.to_vec();
     match rng.below(6) {
-        0 => record[0] = rng.pick(&[0, 15, 16, 0x80, 0x84, 0x8E, 0xFF]),
+        0 => record[0] = rng.pick(&[0, 17, 18, 0x80, 0x84, 0x8F, 0xFF]),
         1 => record.truncate(rng.below(record.len())),
         2 => {
             let more = 1 + rng.below(3);
@@ -319,18 +396,18 @@ pub fn damaged_record(rng: &mut Rng, record: &[u8]) -> Vec<u8> {
         }
         4 => {
             #[rustfmt::skip]
-            let bad: [&[u8]; 13] = [
+            let bad: [&[u8]; 15] = [
                 &[3, 8], &[5, 0, 0], &[5, 9, 17, 1], &[6, 0x80, 1], &[6, 0x7F, 2], &[6, 0, 0],
                 &[6, 1, 0xFF], &[7, 0x80, 1, 1], &[7, 0, 0], &[7, 0, 17], &[10, 16], &[12, 2],
-                &[13, 0],
+                &[13, 0], &[15, 0, 0], &[15, 9, 9, 1],
             ];
             record = rng.pick(&bad).to_vec();
         }
         _ => {
             #[rustfmt::skip]
-            let cut: [&[u8]; 9] = [
+            let cut: [&[u8]; 12] = [
                 &[3], &[4, 1], &[6, 0xFF], &[7, 0xFF], &[5, 0, 2, 1], &[10, 1, 1, 1], &[12, 1], &[],
-                &[13],
+                &[13], &[15, 0], &[15, 0, 8, 1], &[16, 0],
             ];
             record = rng.pick(&cut).to_vec();
         }
@@ -354,7 +431,8 @@ fn with_patience(
     next: fn(&mut Rng, &[u8], &[u8], usize) -> Vec<u8>,
 ) -> Vec<u8> {
     let mut now = patience(rng);
-    session_of(rng, records, |rng, card, state| {
+    let card = staged_card(rng);
+    session_of(rng, card, records, |rng, card, state| {
         if rng.chance(3) {
             now = patience(rng);
         }
@@ -362,14 +440,14 @@ fn with_patience(
     })
 }
 
-/// A session with records that are chosen, one after the other, by `next`.
+/// A session on a card, with records that are chosen, one after the other, by `next`.
 pub fn session_of(
     rng: &mut Rng,
+    mut card: Vec<u8>,
     records: usize,
     mut next: impl FnMut(&mut Rng, &[u8], &[u8]) -> Vec<u8>,
 ) -> Vec<u8> {
-    let mut session = card(rng);
-    let mut card = session.clone();
+    let mut session = card.clone();
     let text = rng.pick(&[0, 0, 1, 7, 40]);
     session.extend(rng.bytes(text));
     let start = session.len();
@@ -410,7 +488,7 @@ fn damage(rng: &mut Rng, bytes: &mut Vec<u8>) {
     let start = u32::from_le_bytes([bytes[end], bytes[end + 1], bytes[end + 2], bytes[end + 3]]);
     let count = u16::from_le_bytes([bytes[end + 4], bytes[end + 5]]);
     let records = end.saturating_sub(start as usize);
-    match rng.below(12) {
+    match rng.below(13) {
         0 => bytes.truncate(rng.below(bytes.len())),
         1 => {
             let (short, long) = (SHORTEST_SESSION - 1, LONGEST_SESSION + 1);
@@ -434,7 +512,8 @@ fn damage(rng: &mut Rng, bytes: &mut Vec<u8>) {
             let moved = start.wrapping_add(rng.below(records + 1) as u32);
             set_trailer(bytes, moved, count);
         }
-        9 | 10 if records > 0 => {
+        9 => damage_staging(rng, bytes),
+        10 | 11 if records > 0 => {
             let at = start as usize + rng.below(records);
             bytes[at] = rng.byte();
         }
@@ -451,16 +530,14 @@ fn entries(log: &[u8]) -> Vec<Entry> {
     opened.entries().map(|entry| entry.expect("the entries are sound")).collect()
 }
 
-/// A sound log in the layout without zones.
+/// What a sound log would be in the layout that no log has any more: no entry names a zone, and the
+/// mark is another.
 pub fn without_zones(log: &[u8]) -> Vec<u8> {
-    let entries = entries(log);
     let plain = |e: &Entry| entry(e.kind, None, &log[e.response.clone()]);
-    let mut bytes = entries.iter().map(plain).collect::<Vec<_>>().concat();
-    let card_at = bytes.len();
-    bytes.extend_from_slice(&log[log.len() - SHORTEST_LOG..]);
-    let trailer = &mut bytes[card_at + CARD..];
-    log::write_trailer(trailer, card_at, entries.len() as u16, Layout::Plain);
-    bytes
+    let entries = entries(log).iter().map(plain).collect::<Vec<_>>().concat();
+    let (card, trailer) = log[log.len() - SHORTEST_LOG..].split_at(CARD);
+    let card_at = (entries.len() as u32).to_le_bytes();
+    [&entries, card, &card_at, &trailer[4..6], &[0x4C, 0x4F]].concat()
 }
 
 /// A zone byte changed, dropped or put in, and the card's place told rightly.
@@ -486,7 +563,7 @@ fn damage_zone(rng: &mut Rng, bytes: &mut Vec<u8>) {
 pub fn damaged_log(rng: &mut Rng, log: &[u8]) -> Vec<u8> {
     let mut bytes = log.to_vec();
     let card_at = bytes.len() - SHORTEST_LOG;
-    match rng.below(10) {
+    match rng.below(11) {
         0 => bytes.truncate(rng.below(bytes.len())),
         1 => bytes.extend(rng.bytes(1)),
         2 => bytes[card_at + FUSES] = rng.byte(),
@@ -500,15 +577,16 @@ pub fn damaged_log(rng: &mut Rng, log: &[u8]) -> Vec<u8> {
             bytes[at] = bytes[at].wrapping_add(rng.pick(&[1, 255]));
         }
         5 => {
-            // The mark of the other layout.
+            // The mark of the other layout, that no log has any more.
             let at = bytes.len() - 1;
             bytes[at] ^= 0x4F ^ 0x50;
         }
         6 => damage_zone(rng, &mut bytes),
-        7 if card_at > 0 => {
+        7 => damage_staging(rng, &mut bytes[card_at..]),
+        8 if card_at > 0 => {
             bytes.remove(rng.below(card_at));
         }
-        8 if card_at > 0 => bytes[rng.below(card_at)] ^= 0x80,
+        9 if card_at > 0 => bytes[rng.below(card_at)] ^= 0x80,
         _ if card_at > 0 => {
             let at = rng.below(card_at);
             bytes[at] = rng.byte();

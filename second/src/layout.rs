@@ -14,11 +14,21 @@ pub const CRYPTOGRAM: usize = CONFIGURATION + 0x28;
 /// The fuse byte, behind the 128 bytes of the configuration.
 pub const FUSES: usize = CONFIGURATION + 0x80;
 
-/// The length of a card.
-pub const CARD: usize = FUSES + 1;
+/// The staging bytes behind it: a flag, where the staged write goes, and its values.
+pub const FLAG: usize = FUSES + 1;
+pub const STAGED_ZONE: usize = FLAG + 1;
+pub const STAGED_ADDRESS: usize = FLAG + 2;
+pub const STAGED_LENGTH: usize = FLAG + 3;
+pub const STAGED_VALUES: usize = FLAG + 4;
 
-/// The length of a volatile state as bytes.
-pub const STATE: usize = 5;
+/// The most bytes of a staged write.
+pub const MOST_STAGED: usize = 8;
+
+/// The length of a card.
+pub const CARD: usize = STAGED_VALUES + MOST_STAGED;
+
+/// The length of a state as bytes.
+pub const STATE: usize = 9;
 
 /// What ends a session, and a log: a place, a count, a mark.
 pub const TRAILER: usize = 8;

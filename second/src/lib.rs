@@ -19,7 +19,8 @@ pub mod record;
 pub mod refusal;
 pub mod samples;
 pub mod session;
-pub mod volatile;
+pub mod staging;
+pub mod state;
 pub mod writer;
 
 #[cfg(test)]

@@ -1,50 +1,31 @@
-//! The log: its two layouts, its check, and finding an answer in it.
+//! The log: its layout, its check, and finding an answer in it.
 
 use std::ops::Range;
 
-use crate::access::Stage;
 use crate::busy::Answer;
-use crate::layout::{CARD, ENTRY_HEADER, ENTRY_ZONE, FUSES, MOST_RECORDS, TRAILER};
+use crate::card::{self, Card};
+use crate::layout::{CARD, ENTRY_HEADER, ENTRY_ZONE, MOST_RECORDS, TRAILER};
 use crate::refusal::Refusal;
-use crate::volatile::Zone;
+use crate::state::Zone;
 
-/// Which entries of a log name a zone; the mark at its end tells.
-#[derive(Clone, Copy, Debug, PartialEq, Eq)]
-pub enum Layout {
-    /// No entry does.
-    Plain,
-    /// Those of zone reads and zone writes do, also when they met a busy card.
-    Zoned,
+const MARK: [u8; 2] = [0x4C, 0x50];
+
+/// Whether an entry of this kind names a zone: those of zone reads and plain zone writes do, also
+/// when the card did not heed them.
+fn names_zone(kind: u8) -> bool {
+    matches!(kind, 4 | 5 | 132 | 133)
 }
 
-impl Layout {
-    pub const fn mark(self) -> [u8; 2] {
-        match self {
-            Layout::Plain => [0x4C, 0x4F],
-            Layout::Zoned => [0x4C, 0x50],
-        }
-    }
-
-    pub fn from_mark(mark: &[u8]) -> Option<Layout> {
-        [Layout::Plain, Layout::Zoned].into_iter().find(|layout| layout.mark() == mark)
-    }
-
-    /// Whether an entry of this kind names a zone.
-    fn has_zone(self, kind: u8) -> bool {
-        self == Layout::Zoned && matches!(kind, 4 | 5 | 132 | 133)
-    }
-
-    /// How much of an entry of this kind comes before its response.
-    pub fn before_response(self, kind: u8) -> usize {
-        if self.has_zone(kind) {
-            ENTRY_HEADER + ENTRY_ZONE
-        } else {
-            ENTRY_HEADER
-        }
+/// How much of an entry of this kind comes before its response.
+pub fn before_response(kind: u8) -> usize {
+    if names_zone(kind) {
+        ENTRY_HEADER + ENTRY_ZONE
+    } else {
+        ENTRY_HEADER
     }
 }
 
-/// Writes what comes before a response; `start` has its length, by the layout and the kind.
+/// Writes what comes before a response; `start` has its length, by the kind.
 pub fn write_start(start: &mut [u8], answer: Answer, zone: Zone) {
     let [low, high] = (answer.length as u16).to_le_bytes();
     let (header, zone_byte) = start.split_at_mut(ENTRY_HEADER);
@@ -54,10 +35,10 @@ pub fn write_start(start: &mut [u8], answer: Answer, zone: Zone) {
     }
 }
 
-pub fn write_trailer(trailer: &mut [u8], card_at: usize, count: u16, layout: Layout) {
+pub fn write_trailer(trailer: &mut [u8], card_at: usize, count: u16) {
     trailer[..4].copy_from_slice(&(card_at as u32).to_le_bytes());
     trailer[4..6].copy_from_slice(&count.to_le_bytes());
-    trailer[6..].copy_from_slice(&layout.mark());
+    trailer[6..].copy_from_slice(&MARK);
 }
 
 /// The least and the greatest response length of each kind of entry; none fits an unknown kind.
@@ -66,13 +47,13 @@ const LENGTHS: [(u16, u16); 256] = {
     let mut kind = 0;
     while kind < 256 {
         lengths[kind] = match kind {
-            1 | 3 | 5 | 7 | 9..=13 => (0, 0),
+            1 | 3 | 5 | 7 | 9..=13 | 15 | 16 => (0, 0),
             2 => (4, 4),
             4 => (1, 256),
             6 => (1, 128),
             8 | 14 => (1, 1),
-            // Kinds 2 to 12, met by a busy card.
-            130..=140 => (0, 0),
+            // Kinds 2 to 15, not heeded.
+            130..=143 => (0, 0),
             _ => (1, 0),
         };
         kind += 1;
@@ -90,7 +71,6 @@ pub struct Entry {
 /// Goes through the entries, which must fill `entries` exactly.
 pub struct Entries<'a> {
     entries: &'a [u8],
-    layout: Layout,
     at: usize,
     left: u16,
 }
@@ -106,7 +86,7 @@ impl Entries<'_> {
         }
         let mut from = self.at + ENTRY_HEADER;
         let mut zone = None;
-        if self.layout.has_zone(kind) {
+        if names_zone(kind) {
             zone = Some(Zone::new(*rest.get(ENTRY_HEADER)?)?);
             from += ENTRY_ZONE;
         }
@@ -133,37 +113,33 @@ impl Iterator for Entries<'_> {
     }
 }
 
-/// A log whose trailer and final fuses are in order; its entries are still to be checked.
+/// A log whose trailer and final card are in order; its entries are still to be checked.
 pub struct Log<'a> {
-    bytes: &'a [u8],
-    layout: Layout,
-    card_at: usize,
+    entries: &'a [u8],
+    card: &'a Card,
     count: u16,
 }
 
 impl<'a> Log<'a> {
     pub fn open(bytes: &'a [u8]) -> Result<Log<'a>, Refusal> {
-        let trailer_at = bytes.len().checked_sub(TRAILER).ok_or(Refusal::Log)?;
-        let card_at = trailer_at.checked_sub(CARD).ok_or(Refusal::Log)?;
-        let trailer = &bytes[trailer_at..];
+        let (bytes, trailer) = bytes.split_last_chunk::<TRAILER>().ok_or(Refusal::Log)?;
+        let (entries, card) = bytes.split_last_chunk::<CARD>().ok_or(Refusal::Log)?;
         let said = u32::from_le_bytes([trailer[0], trailer[1], trailer[2], trailer[3]]);
         let count = u16::from_le_bytes([trailer[4], trailer[5]]);
-        let layout = Layout::from_mark(&trailer[6..]).ok_or(Refusal::Log)?;
-        let good = said as usize == card_at
+        let good = trailer[6..] == MARK
+            && said as usize == entries.len()
             && count <= MOST_RECORDS
-            && Stage::from_fuses(bytes[card_at + FUSES]).is_some();
-        let log = Log { bytes, layout, card_at, count };
-        good.then_some(log).ok_or(Refusal::Log)
+            && card::check(card).is_ok();
+        good.then_some(Log { entries, card, count }).ok_or(Refusal::Log)
     }
 
     /// The final card.
-    pub fn card(&self) -> &'a [u8] {
-        &self.bytes[self.card_at..self.card_at + CARD]
+    pub fn card(&self) -> &'a Card {
+        self.card
     }
 
     pub fn entries(&self) -> Entries<'a> {
-        let entries = &self.bytes[..self.card_at];
-        Entries { entries, layout: self.layout, at: 0, left: self.count }
+        Entries { entries: self.entries, at: 0, left: self.count }
     }
 }
 

@@ -1,8 +1,8 @@
-//! The fourteen kinds of records, and reading them from bytes.
+//! The sixteen kinds of records, and reading them from bytes.
 
-use crate::layout::TRAILER;
+use crate::layout::{MOST_STAGED, PAGE, TRAILER};
 use crate::refusal::Refusal;
-use crate::volatile::{Password, Zone};
+use crate::state::{Cut, Password, Zone};
 
 #[derive(Clone, Copy, Debug, PartialEq, Eq)]
 pub enum Record<'a> {
@@ -20,6 +20,8 @@ pub enum Record<'a> {
     VerifyAuthentication { accepted: bool, bytes: [u8; 8] },
     Wait { milliseconds: u8 },
     Poll,
+    StagedWrite { address: u8, data: &'a [u8] },
+    ArmCut(Cut),
 }
 
 impl Record<'_> {
@@ -39,6 +41,8 @@ impl Record<'_> {
             Record::VerifyAuthentication { .. } => 12,
             Record::Wait { .. } => 13,
             Record::Poll => 14,
+            Record::StagedWrite { .. } => 15,
+            Record::ArmCut(_) => 16,
         }
     }
 
@@ -60,12 +64,13 @@ fn take<const N: usize>(rest: &mut &[u8]) -> Result<[u8; N], Refusal> {
     Ok(*bytes)
 }
 
-/// Takes the bytes to be written, 1–16 of them, off the front.
-fn take_data<'a>(rest: &mut &'a [u8], count: u8) -> Result<&'a [u8], Refusal> {
-    if !(1..=16).contains(&count) {
+/// Takes the bytes to be written, at least one of them, off the front.
+fn take_data<'a>(rest: &mut &'a [u8], count: u8, most: usize) -> Result<&'a [u8], Refusal> {
+    let count = usize::from(count);
+    if !(1..=most).contains(&count) {
         return Err(Refusal::Field);
     }
-    let (data, after) = rest.split_at_checked(usize::from(count)).ok_or(Refusal::CutShort)?;
+    let (data, after) = rest.split_at_checked(count).ok_or(Refusal::CutShort)?;
     *rest = after;
     Ok(data)
 }
@@ -88,7 +93,7 @@ pub fn decode(bytes: &[u8]) -> Result<(Record<'_>, usize), Refusal> {
         }
         5 => {
             let [address, count] = take(&mut rest)?;
-            let data = take_data(&mut rest, count)?;
+            let data = take_data(&mut rest, count, PAGE)?;
             Record::WriteZone { address, data }
         }
         6 => {
@@ -104,7 +109,7 @@ pub fn decode(bytes: &[u8]) -> Result<(Record<'_>, usize), Refusal> {
             if address > 127 {
                 return Err(Refusal::Field);
             }
-            let data = take_data(&mut rest, count)?;
+            let data = take_data(&mut rest, count, PAGE)?;
             Record::WriteConfiguration { address, data }
         }
         8 => Record::ReadFuses,
@@ -133,6 +138,15 @@ pub fn decode(bytes: &[u8]) -> Result<(Record<'_>, usize), Refusal> {
             Record::Wait { milliseconds }
         }
         14 => Record::Poll,
+        15 => {
+            let [address, count] = take(&mut rest)?;
+            let data = take_data(&mut rest, count, MOST_STAGED)?;
+            Record::StagedWrite { address, data }
+        }
+        16 => {
+            let [after, junk] = take(&mut rest)?;
+            Record::ArmCut(Cut { after, junk })
+        }
         _ => return Err(Refusal::Kind),
     };
     Ok((record, bytes.len() - rest.len()))

@@ -18,6 +18,7 @@ pub enum Refusal {
     Log = 13,
     NoSuchAnswer = 14,
     TitleLength = 15,
+    Staging = 16,
 }
 
 impl Refusal {

@@ -1,11 +1,11 @@
 //! The sample sessions: every kind, every refusal a session can get, every fuse stage, every rule
-//! of access, busy cards, every zone in the log, in a fixed order.
+//! of access, busy cards, every zone in the log, cuts at every cell, in a fixed order.
 
 use crate::author::{counter, fresh_card, password, Author};
 use crate::examples;
 use crate::layout::{
-    CARD, CONFIGURATION, LOG_SPACE, LONGEST_ENTRY, LONGEST_SESSION, MOST_RECORDS, SHORTEST_SESSION,
-    ZONE,
+    CARD, CONFIGURATION, FLAG, LOG_SPACE, LONGEST_ENTRY, LONGEST_SESSION, MOST_RECORDS,
+    SHORTEST_SESSION, STAGED_LENGTH, ZONE,
 };
 use crate::session::{self, trailer};
 
@@ -22,17 +22,21 @@ const ATE: u8 = 0x20;
 const MDF: u8 = 0x02;
 const PGO: u8 = 0x01;
 
-/// Every zone with another mix of switches, at one stage, under several passwords.
-fn registers(fuses: u8) -> Author {
+/// Every zone with another mix of switches, at one stage, and with its own set.
+fn mixed(fuses: u8) -> Author {
     let mixes = [0, WPE, RPE, ATE, MDF, PGO, WPE | RPE, WPE | RPE | ATE | PGO];
-    let mut author = Author::new(fuses);
-    for (zone, on) in mixes.into_iter().enumerate() {
-        author = author.put_register(zone, register(on, zone as u8)).put_zone(
+    mixes.into_iter().enumerate().fold(Author::new(fuses), |author, (zone, on)| {
+        author.put_register(zone, register(on, zone as u8)).put_zone(
             zone,
             0,
             &[0xF0, 0x0F, 0xAA, zone as u8],
-        );
-    }
+        )
+    })
+}
+
+/// Those zones under several passwords.
+fn registers(fuses: u8) -> Author {
+    let mut author = mixed(fuses);
     for zone in 0..8 {
         author = author.select(zone).read(0, 4).write(0, &[0x3C]).ready().read(0, 4);
         for selector in [zone, zone + 8, 7] {
@@ -479,6 +483,83 @@ fn selected_and_closed() -> Author {
     })
 }
 
+/// Those zones of mixed switches written by staged writes: without a password, with one, and with
+/// authentication too; one byte more in each zone than in the last, over a page's end.
+fn staged(fuses: u8) -> Author {
+    mixed(fuses).each_zone(|author, zone| {
+        let data = &[0x3C, 0x5A, 0x96, 0x0F, 0xC3, 0xA5, 0x69, 0xF0][..=usize::from(zone)];
+        let written = |a: Author| a.staged_write(0x0F, data).poll().ready().read(0xFE, 18);
+        let a = written(author.select(zone)).right(zone).ready();
+        let a = written(a).begin().ready().verdict(1, b"granted!").ready();
+        written(a).reset()
+    })
+}
+
+/// Staged writes of `n` bytes cut at every cell, the last one not at all; power then finishes what
+/// is ready. Each goes to a page of its own, over its end.
+fn cut_everywhere(author: Author, n: u8, junk: u8) -> Author {
+    (0..=2 * n + 5).fold(author, |author, after| {
+        let address = after << 4 | 0x0E;
+        let author =
+            author.put_zone(usize::from(after % 8), usize::from(address & 0xF0), &[0x77; 16]);
+        let data: Vec<u8> = (0..n).map(|i| (0x39 ^ (0x11 * i)) + after).collect();
+        let author = author.select(after % 8).cut(after, junk).staged_write(address, &data);
+        author.poll().power().poll().select(after % 8).read(address & 0xF0, 16)
+    })
+}
+
+/// A write of eight bytes, cut when it has just become ready, is cut again at every cell of the
+/// finishing, and once more at the same one; then it is finished.
+fn cut_again(junk: u8) -> Author {
+    (0..=9).fold(Author::new(7), |author, after| {
+        let address = after << 4 | 0x0A;
+        let author = author.cut(12, junk).staged_write(address, &[after; 8]).power();
+        let author = author.cut(12, junk).staged_write(address, &[0xA0 + after; 8]);
+        let author = author.cut(after, junk).power().poll().cut(after, !junk).power().poll();
+        author.power().poll().read(address & 0xF0, 16)
+    })
+}
+
+/// Every kind, in a state in which all but power cycles and cuts come to nothing.
+fn met_while_torn(author: Author) -> Author {
+    let met = author.reset().select(5).read(0, 6).write(0, b"ignored").staged_write(0, b"ignored");
+    let met = met.read_configuration(0, 4).write_configuration(0x38, b"ignored");
+    let met = met.read_fuses().write_fuses().right(7).wrong(7).begin().verdict(1, b"ignored.");
+    met.wait(1).wait(255).poll()
+}
+
+/// Every kind meets a card that is off, and one that has something to finish.
+fn off_and_ready() -> Vec<Author> {
+    let off = Author::new(7).right(7).ready().select(3).cut(8, 0x99).staged_write(0x2E, b"new");
+    let ready = |values: &[u8]| Author::new(0).put_ready(6, 0x3F, values);
+    let then = |a: Author, zone, address| {
+        let a = met_while_torn(a).cut(0, 0x66).power();
+        let a = met_while_torn(a).power().select(zone).read(address, 16);
+        a.poll().staged_write(address, b"after").power().select(zone).read(address, 16)
+    };
+    vec![
+        then(off, 3, 0x20),
+        then(ready(b""), 6, 0x30),
+        then(ready(b"f"), 6, 0x30),
+        then(ready(b"finished"), 6, 0x30),
+    ]
+}
+
+/// What keeps a cut armed, what spends it, and what takes its place.
+fn arming() -> Author {
+    let staged = |a: Author| a.staged_write(0x10, b"staged").poll().wait(10).poll();
+    let author = Author::new(0).put_register(1, register(MDF, 0));
+    // Forbidden writes, resets and power cycles keep it; a later one replaces it.
+    let author = staged(author.cut(3, 0).select(1)).reset().power().cut(20, 0).power().cut(4, 1);
+    let author = staged(author).power().read(0x10, 6);
+    // 17 cells are all, so that the cut does not come, and is spent.
+    let author = staged(staged(author.cut(17, 0))).read(0x10, 6);
+    let author = staged(staged(author.cut(255, 0))).read(0x10, 6);
+    // A cut is armed while the card is busy.
+    let author = author.write(0, b"busy").cut(16, 0x10).poll().ready();
+    staged(staged(author)).cut(7, 0).power().cut(6, 1).power().poll().power().read(0x10, 6)
+}
+
 /// A session as its parts say, however wrong they are.
 fn raw(fuses: u8, records: &[u8], start: usize, count: u16) -> Vec<u8> {
     [&fresh_card(fuses)[..], records, &trailer(start, count)].concat()
@@ -494,6 +575,8 @@ fn accepted() -> Vec<Author> {
     let mut all: Vec<Author> = vec![Author::new(7), examples::printed()];
     all.extend(STAGES.map(registers));
     all.extend(STAGES.map(areas));
+    all.extend(STAGES.map(staged));
+    all.extend(off_and_ready());
     all.extend([6, 4].map(closed));
     all.extend([7, 0].map(shared_set));
     all.extend([0, 7, 8, 13].map(counters));
@@ -515,6 +598,13 @@ fn accepted() -> Vec<Author> {
         selected(),
         selected_while_busy(),
         selected_and_closed(),
+        cut_everywhere(Author::new(7), 1, 0xFE),
+        cut_everywhere(Author::new(7), 8, 0x01),
+        cut_everywhere(Author::new(0), 8, 0xFE),
+        cut_everywhere(Author::new(0).each_zone(|a, z| a.put_register(z.into(), 0xFE)), 5, 0xFE),
+        cut_again(0x5A),
+        cut_again(0xA5),
+        arming(),
         Author::new(4).times(MOST_RECORDS.into(), Author::power),
         Author::new(0).reset().select(7).reset().read(0, 0),
         Author::new(0).read(0xFF, 0).read(0xFE, 3).read(0, 1),
@@ -541,8 +631,13 @@ fn refused() -> Vec<Vec<u8>> {
         raw(5, &[], CARD, MOST_RECORDS + 1),
         raw(5, &[8], CARD, 1),
         raw(8, &[8], CARD, 1),
+        Author::new(5).put(FLAG, &[0xFD]).session(),
+        Author::new(6).put(FLAG, &[0xFD]).session(),
+        Author::new(7).put(FLAG, &[0x7F]).record(&[0]).session(),
+        Author::new(0).put_ready(8, 0, b"no zone").session(),
+        Author::new(0).put_ready(7, 0, b"too long").put(STAGED_LENGTH, &[9]).session(),
         one(&[0]),
-        one(&[15]),
+        one(&[17]),
         one(&[3, 8]),
         one(&[3, 0x11]),
         one(&[5, 0, 0]),
@@ -555,6 +650,8 @@ fn refused() -> Vec<Vec<u8>> {
         one(&[10, 16]),
         one(&[12, 2]),
         one(&[13, 0]),
+        one(&[15, 0, 0]),
+        one(&[15, 0, 9]),
         raw(7, &[], CARD, 1),
         one(&[3]),
         one(&[6, 0xFF]),
@@ -562,6 +659,9 @@ fn refused() -> Vec<Vec<u8>> {
         one(&[10, 0, 1, 2]),
         one(&[12, 1, 1, 2, 3, 4, 5, 6, 7]),
         one(&[13]),
+        one(&[15, 0]),
+        one(&[15, 0, 8, 1]),
+        one(&[16, 0]),
         raw(7, &[8, 8], CARD, 1),
         raw(7, &[8], CARD, 0),
         Author::new(7).times(255, |a| a.read(0, 0)).session(),

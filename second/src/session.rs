@@ -1,20 +1,14 @@
 //! A whole session: checked first, then run into its log.
 
-use crate::access::Stage;
 use crate::busy;
-use crate::card::Card;
-use crate::layout::{
-    CARD, FUSES, LONGEST_SESSION, MOST_RECORDS, SHORTEST_LOG, SHORTEST_SESSION, TRAILER,
-};
-use crate::log::{self, Layout};
+use crate::card::{self, Card};
+use crate::layout::{CARD, LONGEST_SESSION, MOST_RECORDS, SHORTEST_LOG, SHORTEST_SESSION, TRAILER};
+use crate::log;
 use crate::record::Reader;
 use crate::refusal::Refusal;
-use crate::volatile::Volatile;
+use crate::state::State;
 
 pub const MARK: [u8; 2] = [0x53, 0x45];
-
-/// How the log of a session is laid out.
-const LAYOUT: Layout = Layout::Zoned;
 
 /// What the check of a session finds.
 #[derive(Clone, Copy, Debug, PartialEq, Eq)]
@@ -32,6 +26,11 @@ pub fn trailer(start: usize, count: u16) -> [u8; TRAILER] {
     bytes[4..6].copy_from_slice(&count.to_le_bytes());
     bytes[6..].copy_from_slice(&MARK);
     bytes
+}
+
+/// The card that a session begins with.
+fn first_card(session: &[u8]) -> Result<&Card, Refusal> {
+    session.first_chunk().ok_or(Refusal::SessionLength)
 }
 
 /// Checks a session whole, its records included.
@@ -52,12 +51,12 @@ pub fn check(session: &[u8]) -> Result<Checked, Refusal> {
     if count > MOST_RECORDS {
         return Err(Refusal::Count);
     }
-    Stage::from_fuses(session[FUSES]).ok_or(Refusal::Fuses)?;
+    card::check(first_card(session)?)?;
     let mut reader = Reader::new(session, start);
     let mut entries = 0;
     for _ in 0..count {
         let record = reader.next_record()?;
-        entries += LAYOUT.before_response(record.kind()) + record.response_length();
+        entries += log::before_response(record.kind()) + record.response_length();
     }
     if reader.at() != end {
         return Err(Refusal::BytesLeft);
@@ -69,15 +68,15 @@ pub fn check(session: &[u8]) -> Result<Checked, Refusal> {
 pub fn run(session: &[u8], log: &mut [u8]) -> Result<usize, Refusal> {
     let Checked { start, count, log_space } = check(session)?;
     let log = log.get_mut(..log_space).ok_or(Refusal::Space)?;
-    // What a busy card ignores makes the log shorter, so its final card has no place yet.
-    let mut card: Card = *session.first_chunk().ok_or(Refusal::CardLength)?;
-    let mut state = Volatile::POWER_UP;
+    // What the card does not heed makes the log shorter, so its final card has no place yet.
+    let mut card = *first_card(session)?;
+    let mut state = State::POWER_UP;
     let mut reader = Reader::new(session, start);
     let mut at = 0;
     for _ in 0..count {
         let record = reader.next_record()?;
-        let answer = busy::answer(&state, &record);
-        let before = LAYOUT.before_response(answer.kind);
+        let answer = busy::answer(&card, &state, &record);
+        let before = log::before_response(answer.kind);
         let entry = &mut log[at..at + before + answer.length];
         at += entry.len();
         let (start, response) = entry.split_at_mut(before);
@@ -87,6 +86,6 @@ pub fn run(session: &[u8], log: &mut [u8]) -> Result<usize, Refusal> {
     }
     let (last_card, trailer) = log[at..at + SHORTEST_LOG].split_at_mut(CARD);
     last_card.copy_from_slice(&card);
-    log::write_trailer(trailer, at, count, LAYOUT);
+    log::write_trailer(trailer, at, count);
     Ok(at + SHORTEST_LOG)
 }

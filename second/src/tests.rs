@@ -1,15 +1,16 @@
 //! What the paper says in so many words: cases A–L, the edges, the printed example, each refusal
 //! by its number, the tries left, what closed bytes show, and the mistakes that are easily made.
-//! What is said of a busy card, of the zones in a log and of the session writer has files of its
-//! own.
+//! What is said of a busy card, of staged writes, of the zones in a log and of the session writer
+//! has files of its own.
 
 mod busy;
+mod staging;
 mod writer;
 mod zones;
 
 use std::collections::{BTreeSet, HashMap};
 
-use crate::author::{counter, entry, fresh_card, log_of, password, Author};
+use crate::author::{counter, entry, fresh_card, log_of, on, password, Author};
 use crate::command::{command, Reply};
 use crate::layout::{
     AAC, CARD, CONFIGURATION, ENTRY_HEADER, ENTRY_ZONE, FUSES, LOG_SPACE, LONGEST_ENTRY,
@@ -24,9 +25,9 @@ use crate::{edges, encoded, examples, gen, log, samples};
 
 const NONE: [u8; STATE] = [0; STATE];
 
-/// What ends a log in which no entry names a zone, and one in which some do.
-const PLAIN: [u8; 2] = [0x4C, 0x4F];
+/// What ends a log, and what ended one in which no entry named a zone.
 const ZONED: [u8; 2] = [0x4C, 0x50];
+const PLAIN: [u8; 2] = [0x4C, 0x4F];
 
 /// The configuration addresses of the seventeen counters, in the order of the listing.
 #[rustfmt::skip]
@@ -36,7 +37,7 @@ const COUNTERS: [usize; 17] = [
     0x20,
 ];
 
-/// A card on the table: its bytes and its volatile state.
+/// A card on the table: its bytes and its state.
 #[derive(Clone, Debug, PartialEq)]
 struct Table {
     card: Vec<u8>,
@@ -115,7 +116,7 @@ impl Table {
 fn refused(card: &[u8], state: &[u8], record: &[u8], space: usize) -> u8 {
     let (mut c, mut s, mut r) = (card.to_vec(), state.to_vec(), vec![0xEE; space]);
     let result = encoded::at88sc1608_command(&mut c, &mut s, record, &mut r);
-    assert!((1..=14).contains(&result), "{result:#X}");
+    assert!((1..=16).contains(&result), "{result:#X}");
     assert_eq!((&c[..], &s[..]), (card, state));
     assert!(r.iter().all(|&b| b == 0xEE));
     result as u8
@@ -153,7 +154,7 @@ fn case_b_locked_password() {
     assert_eq!((t.card[counter(4)], t.state), (0, NONE));
     let mut t = Table::new(0).active(9).set(counter(4), 0);
     t.verify(4, [0, 0, 0]);
-    assert_eq!((t.card[counter(4)], t.state), (0, [0, 1, 9, 0, 0]));
+    assert_eq!((t.card[counter(4)], t.state), (0, on([0, 1, 9, 0, 0])));
 }
 
 #[test]
@@ -213,7 +214,7 @@ fn cases_j_k_fuses_and_reset() {
         t.run(&[9]);
         f
     });
-    assert_eq!((fuses[4], t.card[FUSES], t.state), (0, 0, [0, 1, 7, 0, 0]));
+    assert_eq!((fuses[4], t.card[FUSES], t.state), (0, 0, on([0, 1, 7, 0, 0])));
     for active in [6, 15] {
         let mut t = Table::new(7).active(active);
         t.run(&[9]);
@@ -222,7 +223,7 @@ fn cases_j_k_fuses_and_reset() {
     let mut t = Table::new(0).active(3).granted();
     t.run(&[3, 5]);
     assert_eq!(t.run(&[2]), [0x34, 0x55, 0xAA, 0x80]);
-    assert_eq!(t.state, [5, 0, 0, 0, 0]);
+    assert_eq!(t.state, on([5, 0, 0, 0, 0]));
     t.run(&[1]);
     assert_eq!(t.state, NONE);
 }
@@ -324,7 +325,7 @@ fn tries_after_begun_authentication() {
 
 #[test]
 fn no_tries_after_other_commands() {
-    let records: [&[u8]; 13] = [
+    let records: [&[u8]; 15] = [
         &[1],
         &[2],
         &[3, 5],
@@ -338,6 +339,8 @@ fn no_tries_after_other_commands() {
         &[9],
         b"\x0C\x00rejected",
         b"\x0C\x01accepted",
+        &[15, 0, 1, 0xA5],
+        &[16, 0, 0xA5],
     ];
     for record in records {
         for fuses in [7, 6, 4, 0] {
@@ -356,8 +359,8 @@ fn refused_presentations_have_their_number_alone() {
     for record in [&[10, 4, 0xA4, 0x5A, 0x3C][..], &[10, 12, 1, 2, 3], &[11]] {
         assert_eq!(refused(&card[1..], &NONE, record, 0), 11);
         assert_eq!(refused(&fresh_card(5), &NONE, record, 0), 5);
-        assert_eq!(refused(&card, &[8, 0, 0, 0, 0], record, 0), 12);
-        assert_eq!(refused(&card, &[0, 1, 16, 0, 0], record, 0), 12);
+        assert_eq!(refused(&card, &on([8, 0, 0, 0, 0]), record, 0), 12);
+        assert_eq!(refused(&card, &on([0, 1, 16, 0, 0]), record, 0), 12);
         assert_eq!(refused(&card, &NONE, &[record, &[0]].concat(), 0), 9);
     }
     assert_eq!(refused(&card, &NONE, &[10, 16, 1, 2, 3], 0), 7);
@@ -379,6 +382,8 @@ fn encoded_commands() {
     assert_eq!(result(&[11]), 0xB_0700_0000);
     assert_eq!(result(&[13, 1]), 0xD_0000_0000);
     assert_eq!(result(&[14]), 0xE_0000_0100);
+    assert_eq!(result(&[15, 0, 1, 0xA5]), 0xF_0000_0000);
+    assert_eq!(result(&[16, 0, 0xA5]), 0x10_0000_0000);
     assert_eq!(result(&[11, 11]), 9);
 }
 
@@ -403,7 +408,7 @@ fn configuration_rights_go_byte_by_byte() {
     assert_eq!(t.card[CONFIGURATION + 0x0C], 0xFF);
     // Rewriting the active password leaves it active.
     t.run(&[7, 0x78, 4, 0, 1, 2, 3]);
-    assert_eq!((t.card[counter(7)], t.state), (0, [0, 1, 7, 0, 0]));
+    assert_eq!((t.card[counter(7)], t.state), (0, on([0, 1, 7, 0, 0])));
 }
 
 /// Registers of a zone that is closed: without the passwords of set 5, without authentication,
@@ -488,10 +493,10 @@ fn closed_reads_are_logged_and_listed() {
 
 #[test]
 fn edges() {
-    assert_eq!((CARD, FUSES, SHORTEST_SESSION), (2177, 2176, 2185));
+    assert_eq!((CARD, FUSES, SHORTEST_SESSION), (2189, 2176, 2197));
     assert_eq!((LONGEST_SESSION, MOST_RECORDS, LOG_SPACE), (65_536, 4096, 65_536));
     let empty = raw(7, &[], CARD, 0);
-    assert_eq!(run(&empty, &mut [0; 2185]), Ok(2185));
+    assert_eq!(run(&empty, &mut [0; 2197]), Ok(2197));
     assert_eq!(session_refused(&empty[1..]), 1);
     assert_eq!(Table::new(7).run(&[&[5, 0, 16][..], &[0; 16]].concat()), []);
     assert_eq!(decoded(&[&[5, 0, 17][..], &[0; 17]].concat()), 7);
@@ -503,7 +508,7 @@ fn edges() {
 fn records_refused() {
     #[rustfmt::skip]
     let cases = [
-        (&[][..], 8), (&[0], 6), (&[15], 6), (&[128], 6), (&[132, 0, 1], 6), (&[255, 1], 6),
+        (&[][..], 8), (&[0], 6), (&[17], 6), (&[128], 6), (&[132, 0, 1], 6), (&[255, 1], 6),
         (&[3], 8), (&[3, 8], 7), (&[3, 255], 7), (&[4, 1], 8),
         (&[5], 8), (&[5, 0], 8), (&[5, 0, 0], 7), (&[5, 0, 17], 7), (&[5, 0, 2, 1], 8),
         (&[6, 0xFF], 8), (&[6, 0x80, 1], 7), (&[6, 0, 0], 7), (&[6, 1, 0xFF], 7), (&[6, 0, 129], 7),
@@ -511,6 +516,10 @@ fn records_refused() {
         (&[10], 8), (&[10, 16], 7), (&[10, 0, 1, 2], 8), (&[12], 8), (&[12, 2], 7),
         (&[12, 1, 1, 2, 3, 4, 5, 6, 7], 8), (&[1, 1], 9), (&[4, 0, 1, 0], 9), (&[8, 0], 9),
         (&[13], 8), (&[13, 0], 7), (&[13, 0, 0], 7), (&[13, 1, 0], 9), (&[14, 0], 9),
+        (&[15], 8), (&[15, 0], 8), (&[15, 0, 0], 7), (&[15, 0, 9], 7), (&[15, 0, 255], 7),
+        (&[15, 0, 1], 8), (&[15, 0, 8, 1, 2, 3, 4, 5, 6, 7], 8), (&[15, 0, 1, 1, 1], 9),
+        (&[15, 0, 9, 1, 2, 3, 4, 5, 6, 7, 8, 9], 7),
+        (&[16], 8), (&[16, 0], 8), (&[16, 0, 0, 0], 9),
     ];
     for (record, number) in cases {
         assert_eq!(decoded(record), number, "{record:02X?}");
@@ -521,15 +530,15 @@ fn records_refused() {
 fn caller_refused() {
     let card = fresh_card(7);
     let odd = fresh_card(5);
-    let bad = [8, 0, 0, 0, 0];
+    let bad = on([8, 0, 0, 0, 0]);
     assert_eq!(refused(&odd[1..], &bad, &[0], 0), 11);
     assert_eq!(refused(&[&card[..], &[7]].concat(), &NONE, &[8], 1), 11);
     assert_eq!(refused(&odd, &bad, &[0], 0), 5);
     assert_eq!(refused(&card, &bad, &[0], 0), 12);
     #[rustfmt::skip]
-    let states: [&[u8]; 9] = [
-        &[0, 2, 0, 0, 0], &[0, 0, 1, 0, 0], &[0, 1, 16, 0, 0], &[0, 0, 0, 3, 0], &[0, 0, 0, 0, 11],
-        &[255, 0, 0, 0, 0], &[], &[0; 4], &[0; 6],
+    let states: [&[u8]; 10] = [
+        &on([0, 2, 0, 0, 0]), &on([0, 0, 1, 0, 0]), &on([0, 1, 16, 0, 0]), &on([0, 0, 0, 3, 0]),
+        &on([0, 0, 0, 0, 11]), &on([255, 0, 0, 0, 0]), &[], &[0; 5], &[0; 8], &[0; 10],
     ];
     for state in states {
         assert_eq!(refused(&card, state, &[8], 1), 12, "{state:?}");
@@ -537,7 +546,7 @@ fn caller_refused() {
     assert_eq!(refused(&card, &NONE, &[6, 0, 0], 0), 7);
     assert_eq!(refused(&card, &NONE, &[8, 8], 0), 9);
     assert_eq!(refused(&card, &NONE, &[8], 0), 10);
-    assert_eq!(refused(&card, &[1, 1, 3, 2, 0], &[2], 3), 10);
+    assert_eq!(refused(&card, &on([1, 1, 3, 2, 0]), &[2], 3), 10);
     assert_eq!(refused(&card, &NONE, &[4, 9, 0], 255), 10);
 }
 
@@ -643,7 +652,7 @@ fn printed_example_and_listings() {
     assert_eq!(listing(&power), format!("0 01\n{full}\nfuses 00\n"));
     let none = Author::new(4).session();
     assert_eq!(listing(&none), format!("{full}\nfuses 04\n"));
-    let late = Author::new(0).wrong(3).record(&[15]).session();
+    let late = Author::new(0).wrong(3).record(&[17]).session();
     assert_eq!(listing(&late), "refused 6\n");
 }
 
@@ -681,19 +690,20 @@ fn kinds(session: &[u8]) -> BTreeSet<u8> {
     entries.into_iter().flatten().map(|entry| entry.unwrap().kind).collect()
 }
 
-/// All but the sessions about busy cards wait where they must, so their records are carried out.
+/// All but the sessions about busy and torn cards wait where they must, so their records are carried
+/// out.
 #[test]
 fn sessions_wait_for_the_card() {
     let ignored = |session: &[u8]| kinds(session).into_iter().any(|kind| kind >= 128);
     let examples = examples::all().into_iter().filter(|(_, session)| ignored(session));
-    assert!(examples.map(|(name, _)| name).eq(["busy", "zones"]));
-    assert_eq!(samples::all().iter().filter(|session| ignored(session)).count(), 4);
+    assert!(examples.map(|(name, _)| name).eq(["busy", "zones", "torn"]));
+    assert_eq!(samples::all().iter().filter(|session| ignored(session)).count(), 15);
 }
 
 #[test]
 fn samples_show_every_kind() {
     let shown: BTreeSet<u8> = samples::all().iter().flat_map(|session| kinds(session)).collect();
-    assert!(shown.into_iter().eq((1..=14).chain(130..=140)));
+    assert!(shown.into_iter().eq((1..=16).chain(130..=143)));
 }
 
 #[test]
@@ -710,11 +720,11 @@ fn samples_tell_the_counters_apart() {
 #[test]
 fn samples_meet_every_session_refusal() {
     let listings: Vec<String> = samples::all().iter().map(|s| listing(s)).collect();
-    for number in 1..=10 {
+    for number in (1..=10).chain([16]) {
         assert!(listings.contains(&format!("refused {number}\n")), "{number}");
     }
     let total: usize = samples::all().iter().map(Vec::len).sum();
-    assert!(total < 325_000);
+    assert!(total < 400_000, "{total}");
 }
 
 /// The sessions at the edges, by name.
@@ -731,23 +741,27 @@ fn edge_sessions_have_their_sizes() {
         (session.len(), checked.map_err(Refusal::number))
     };
     assert_eq!(sizes("empty"), (0, Err(1)));
-    assert_eq!(sizes("below-least"), (2184, Err(1)));
-    assert_eq!(sizes("least"), (2185, Ok((0, 2185))));
+    assert_eq!(sizes("below-least"), (2196, Err(1)));
+    assert_eq!(sizes("least"), (2197, Ok((0, 2197))));
     assert_eq!(sizes("greatest"), (65_536, Ok((4096, 65_536))));
     assert_eq!(sizes("byte-more"), (65_537, Err(1)));
     assert_eq!(sizes("record-more"), (65_536, Err(4)));
     assert_eq!(sizes("log-byte-more"), (65_536, Ok((4096, 65_537))));
     assert_eq!(sizes("busy-greatest"), (65_536, Ok((4096, 65_536))));
     assert_eq!(sizes("busy-log-byte-more"), (65_536, Ok((4096, 65_537))));
+    assert_eq!(sizes("ready"), (2198, Ok((1, 2200))));
+    for name in ["ready-zone-more", "ready-length-more", "flag-below-ready"] {
+        assert_eq!(sizes(name), (2198, Err(16)), "{name}");
+    }
     assert_eq!(listing(&sessions["log-byte-more"]), "refused 10\n");
     assert_eq!(listing(&sessions["busy-log-byte-more"]), "refused 10\n");
     let mut log = vec![0; LOG_SPACE];
-    // Only where the card is busy is the log shorter than the space that is asked for.
+    // Only where records are not heeded is the log shorter than the space that is asked for.
     assert_eq!(run(&sessions["greatest"], &mut log), Ok(LOG_SPACE));
     assert!(run(&sessions["busy-greatest"], &mut log).unwrap() < LOG_SPACE);
-    assert!(kinds(&sessions["greatest"]).into_iter().eq(1..=14));
-    let acting = [1, 4, 5, 13, 14];
-    assert!(kinds(&sessions["busy-greatest"]).into_iter().eq(acting.into_iter().chain(130..=140)));
+    assert!(kinds(&sessions["greatest"]).into_iter().eq(1..=16));
+    let acting = [1, 4, 5, 13, 14, 15, 16];
+    assert!(kinds(&sessions["busy-greatest"]).into_iter().eq(acting.into_iter().chain(130..=143)));
 }
 
 /// The end of a listing; a counter has at most 8 tries, so each number has one digit.

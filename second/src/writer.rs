@@ -1,8 +1,8 @@
 //! The session writer, and the parts that it writes a session from.
 
-use crate::access::Stage;
+use crate::card::{self, Card};
 use crate::layout::{
-    CARD, FUSES, LONGEST_SESSION, LONGEST_TITLE, MOST_RECORDS, SHORTEST_SESSION, TRAILER,
+    CARD, LONGEST_SESSION, LONGEST_TITLE, MOST_RECORDS, SHORTEST_SESSION, TRAILER,
 };
 use crate::record;
 use crate::refusal::Refusal;
@@ -37,9 +37,7 @@ pub fn write_session(
     count: u64,
     session: &mut [u8],
 ) -> Result<usize, Refusal> {
-    if card.len() != CARD {
-        return Err(Refusal::CardLength);
-    }
+    let card: &Card = card.try_into().map_err(|_| Refusal::CardLength)?;
     let length = SHORTEST_SESSION.saturating_add(title.len()).saturating_add(records.len());
     if length > LONGEST_SESSION {
         return Err(Refusal::SessionLength);
@@ -47,7 +45,7 @@ pub fn write_session(
     if count > MOST_RECORDS.into() {
         return Err(Refusal::Count);
     }
-    Stage::from_fuses(card[FUSES]).ok_or(Refusal::Fuses)?;
+    card::check(card)?;
     if title.len() > LONGEST_TITLE {
         return Err(Refusal::TitleLength);
     }
@@ -62,7 +60,7 @@ pub fn write_session(
     let session = session.get_mut(..length).ok_or(Refusal::Space)?;
     let trailer = session::trailer(CARD + title.len(), count as u16);
     let mut at = 0;
-    for part in [card, title, records, &trailer] {
+    for part in [&card[..], title, records, &trailer] {
         session[at..at + part.len()].copy_from_slice(part);
         at += part.len();
     }

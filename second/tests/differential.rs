@@ -6,27 +6,29 @@
 mod both;
 mod busy;
 mod proved;
+mod staging;
 mod writer;
 mod zones;
 
 use std::collections::BTreeMap;
 
-use second::author::{counter, entry, fresh_card, log_of, Author};
+use second::author::{counter, entry, fresh_card, log_of, on, Author};
 use second::edges;
 use second::gen::{self, Rng};
 use second::layout::{
-    AAC, CARD, CONFIGURATION, ENTRY_HEADER, FUSES, LOG_SPACE, LONGEST_SESSION, MOST_RECORDS,
-    REGISTERS, SHORTEST_LOG, SHORTEST_SESSION, STATE, TRAILER,
+    AAC, CARD, CONFIGURATION, ENTRY_HEADER, FLAG, FUSES, LOG_SPACE, LONGEST_SESSION, MOST_RECORDS,
+    REGISTERS, SHORTEST_LOG, SHORTEST_SESSION, STAGED_LENGTH, STATE, TRAILER,
 };
 use second::samples;
 use second::session;
+use second::staging::READY;
 
 const STAGES: [u8; 4] = [7, 6, 4, 0];
 const FIXED: &str = "none: a fixed case";
 
-/// What ends a log in which no entry names a zone, and one in which some do.
-const PLAIN: [u8; 2] = [0x4C, 0x4F];
+/// What ends a log, and what ended one in which no entry named a zone.
 const ZONED: [u8; 2] = [0x4C, 0x50];
+const PLAIN: [u8; 2] = [0x4C, 0x4F];
 
 /// How often something was met.
 #[derive(Default)]
@@ -66,11 +68,11 @@ fn seeds(count: u64) -> std::ops::Range<u64> {
     }
 }
 
-/// Every volatile state of a ready card but for the zone.
+/// Every state of a card that heeds all, but for the zone; nothing is armed.
 fn states(zone: u8) -> Vec<[u8; STATE]> {
     let actives = (0..17).map(|a| if a < 16 { [1, a] } else { [0, 0] });
     actives
-        .flat_map(|[some, selector]| (0..3).map(move |auth| [zone, some, selector, auth, 0]))
+        .flat_map(|[some, selector]| (0..3).map(move |auth| on([zone, some, selector, auth, 0])))
         .collect()
 }
 
@@ -107,9 +109,12 @@ fn every_register_in_every_state() {
             card[REGISTERS + usize::from(zone)] = register;
             for mut state in states(zone) {
                 both::command(FIXED, &mut card, &mut state, &[4, 0xFE, 4], 4);
-                let mut written = card.clone();
+                let (mut written, mut staged, mut then) = (card.clone(), card.clone(), state);
                 both::command(FIXED, &mut written, &mut state, &[5, 0x3F, 2, 0x3C, 0x5A], 0);
                 assert_eq!(state[4], 10, "stored or kept out");
+                both::command(FIXED, &mut staged, &mut then, &[15, 0x3F, 2, 0x3C, 0x5A], 0);
+                assert_eq!(state, then);
+                assert!(written[..FLAG] == staged[..FLAG], "a staged write stores the same");
             }
         }
     }
@@ -120,7 +125,7 @@ fn closed_read(card: &mut [u8], address: u8, count: u8) {
     let fuses = card[FUSES];
     let needed = if count == 0 { 256 } else { usize::from(count) };
     let record = [4, address, count];
-    let mut state = [3, 1, 7, 1, 0];
+    let mut state = on([3, 1, 7, 1, 0]);
     assert_eq!(both::command(FIXED, card, &mut state, &record, needed - 1), 10);
     for space in [needed, needed + 5] {
         let (result, response) = both::answered(FIXED, card, &mut state, &record, space);
@@ -185,7 +190,7 @@ fn every_counter_value() {
                     record[2 + wrong] ^= 0x10;
                     left = one_fewer;
                 }
-                let mut state = [5, 1, (selector + 3) % 16, value % 3, 0];
+                let mut state = on([5, 1, (selector + 3) % 16, value % 3, 0]);
                 let result = both::command(FIXED, &mut card, &mut state, &record, 0);
                 let what = format!("selector {selector}, counter {value:02X}");
                 assert_eq!(result, accepted(10, 0, left), "{what}");
@@ -219,7 +224,7 @@ fn present(selector: u8, stored: [u8; 3], presented: [u8; 3]) {
     let mut card = marked_card(STAGES[usize::from(selector & 3)]);
     card[at + 1..at + 4].copy_from_slice(&stored);
     let record = [&[10, selector][..], &presented].concat();
-    let mut state = [5, 1, (selector + 3) % 16, selector % 3, 0];
+    let mut state = on([5, 1, (selector + 3) % 16, selector % 3, 0]);
     let result = both::command(FIXED, &mut card, &mut state, &record, 0);
     let left = if stored == presented { 8 } else { 7 };
     let what = format!("selector {selector}: {stored:02X?}, {presented:02X?}");
@@ -262,7 +267,7 @@ fn every_plain_command_in_every_state() {
     for byte in 0..=255 {
         let mut card = marked_card(7);
         card[CONFIGURATION..CONFIGURATION + 4].fill(byte);
-        both::command(FIXED, &mut card, &mut [7, 1, 1, 1, 0], &[2], 4);
+        both::command(FIXED, &mut card, &mut on([7, 1, 1, 1, 0]), &[2], 4);
     }
 }
 
@@ -278,13 +283,13 @@ fn fields_and_lengths(state: [u8; STATE]) {
                 let mut record = vec![kind, field, 9, 1, 2, 3, 4, 5, 6, 7, 8, 9, 10, 11];
                 record.truncate(length);
                 run(&record, 256);
-                if kind > 16 {
+                if kind > 18 {
                     break;
                 }
             }
         }
     }
-    for kind in [4, 5, 6, 7] {
+    for kind in [4, 5, 6, 7, 15] {
         for address in 0..=255 {
             for count in 0..=255 {
                 let mut record = vec![kind, address, count];
@@ -310,40 +315,54 @@ fn fields_and_lengths(state: [u8; STATE]) {
 
 #[test]
 fn every_field_and_length_of_a_record() {
-    fields_and_lengths([1, 1, 7, 0, 0]);
+    fields_and_lengths(on([1, 1, 7, 0, 0]));
 }
 
 #[test]
 fn every_field_and_length_of_a_record_met_while_busy() {
-    fields_and_lengths([1, 1, 7, 0, 6]);
+    fields_and_lengths(on([1, 1, 7, 0, 6]));
+}
+
+#[test]
+fn every_field_and_length_of_a_record_met_while_off() {
+    fields_and_lengths([0, 0, 0, 0, 0, 1, 0, 0, 0]);
 }
 
 #[test]
 fn every_byte_of_a_callers_mistake() {
     // Each caller's fault alone, then together with all that comes later in the order.
     let right = [10, 3, 0xA3, 0x5A, 0x3C];
-    let records: [&[u8]; 11] =
-        [&[8], &[2], &[0], &[8, 8], &[], &right, &[11], &[13, 1], &[13, 0], &[13], &[14]];
+    #[rustfmt::skip]
+    let records: [&[u8]; 14] = [
+        &[8], &[2], &[0], &[8, 8], &[], &right, &[11], &[13, 1], &[13, 0], &[13], &[14], &[1],
+        &[15, 0, 1, 5], &[16, 1, 2],
+    ];
     for record in records {
         for space in [0, 4] {
             for (at, value) in (0..STATE).flat_map(|at| (0..=255).map(move |value| (at, value))) {
-                for mut state in [[0, 0, 0, 0, 0], [3, 1, 7, 2, 0], [3, 1, 7, 2, 4]] {
+                for mut state in [
+                    [0; STATE],
+                    on([3, 1, 7, 2, 0]),
+                    on([3, 1, 7, 2, 4]),
+                    [3, 1, 7, 2, 4, 1, 1, 3, 5],
+                ] {
                     state[at] = value;
                     both::command(FIXED, &mut fresh_card(4), &mut state, record, space);
                 }
             }
-            for length in 0..9 {
+            for length in 0..13 {
                 for byte in [0, 1, 10] {
-                    let mut state = [&[0; 4][..], &[byte; 5]].concat();
+                    let mut state = [&[0; 4][..], &[byte; 9]].concat();
                     state.truncate(length);
                     both::command(FIXED, &mut fresh_card(4), &mut state, record, space);
                 }
             }
             for fuses in 0..=255 {
-                for mut state in [[0, 0, 0, 0, 0], [0, 0, 0, 0, 10], [0, 0, 0, 0, 11]] {
+                for busy in [0, 10, 11] {
+                    let mut state = on([0, 0, 0, 0, busy]);
                     let mut card = fresh_card(fuses);
                     both::command(FIXED, &mut card, &mut state, record, space);
-                    for length in [0, 1, FUSES, CARD + 1, 4000] {
+                    for length in [0, 1, FUSES, FUSES + 1, CARD - 1, CARD + 1, 4000] {
                         let mut odd = card.to_vec();
                         odd.resize(length, fuses);
                         both::command(FIXED, &mut odd, &mut state, record, space);
@@ -381,6 +400,11 @@ fn one_call(
             odd.resize(length, 0);
             both::command(seed, &mut odd, state, &record, space)
         }
+        3 => {
+            let mut odd = card.to_vec();
+            gen::damage_staging(rng, &mut odd);
+            both::command(seed, &mut odd, state, &record, space)
+        }
         _ => {
             let (before, was) = (card.to_vec(), *state);
             let result = both::command(seed, card, state, &record, space);
@@ -400,7 +424,7 @@ fn one_call(
     };
     met.note("commands");
     met.note(&format!("refusal {}", result & 0xFF));
-    if let [kind @ (10 | 11), ..] = record[..] {
+    if let [kind @ (10 | 11 | 15 | 16), ..] = record[..] {
         met.note(&format!("refusal {} of kind {kind}", result & 0xFF));
     }
 }
@@ -465,6 +489,28 @@ fn reached(
             met.note_if("wrong password, counter with a gap", !right && has_gap(before[at]));
         }
         11 => met.note_if("begun, counter with a gap", has_gap(before[AAC])),
+        1 if before[FLAG] == READY => {
+            let name = if state[5] == 1 { "cut again" } else { "finished" };
+            met.note(&format!("{name}, {} bytes", before[STAGED_LENGTH]));
+            met.note_if("finished, and a cut spent", state[5] == 0 && was[6] == 1);
+        }
+        1 => met.note_if("power with a cut armed", was[6] == 1),
+        15 if state[5] == 1 => {
+            met.note(&format!("cut in {} bytes after {} cells", record[2], was[7]));
+            met.note_if("cut, ready", card[FLAG] == READY);
+            met.note_if("cut, idle", card[FLAG] != READY);
+        }
+        15 if before[FUSES] != 7 => {
+            let changed = before[FLAG..] != card[FLAG..];
+            met.note(if changed { "staged write stored" } else { "staged write kept out" });
+            met.note_if("staged write, and a cut spent", was[6] == 1 && state[6] == 0);
+            met.note_if("staged write kept out, cut kept", was[6] == 1 && state[6] == 1);
+        }
+        16 => {
+            met.note_if("armed while busy", was[4] > 0);
+            met.note_if("armed while off", was[5] == 1);
+            met.note_if("armed again", was[6] == 1);
+        }
         _ => {}
     }
     for (name, from, to) in [("granted", 1, 2), ("rejected", 1, 0), ("lost", 2, 0), ("again", 2, 1)]
@@ -478,7 +524,7 @@ fn lists_of_commands() {
     let mut met = Met::default();
     for seed in seeds(4000) {
         let mut rng = Rng::new(seed);
-        let mut card = gen::card(&mut rng);
+        let mut card = gen::staged_card(&mut rng);
         let mut state = [0; STATE];
         let mut patience = gen::patience(&mut rng);
         for call in 0..160 {
@@ -494,14 +540,14 @@ fn lists_of_commands() {
         }
     }
     met.require("commands", 500_000);
-    for refusal in [0, 5, 6, 7, 8, 9, 10, 11, 12] {
+    for refusal in [0, 5, 6, 7, 8, 9, 10, 11, 12, 16] {
         met.require(&format!("refusal {refusal}"), 500);
     }
     for fuses in STAGES {
-        for kind in 1..=14 {
+        for kind in 1..=16 {
             met.require(&format!("kind {kind} at F={fuses}"), 300);
         }
-        for kind in 130..=140 {
+        for kind in 130..=143 {
             met.require(&format!("kind {kind} at F={fuses}"), 100);
         }
     }
@@ -513,7 +559,7 @@ fn lists_of_commands() {
     for left in 1..=9 {
         met.require(&format!("kind 13, busy from 10 to {left}"), 50);
     }
-    for kind in [5, 7, 9, 10, 11, 12] {
+    for kind in [5, 7, 9, 10, 11, 12, 15] {
         met.require(&format!("kind {kind}, busy from 0 to 10"), 300);
     }
     for kind in [9, 10, 11, 12] {
@@ -528,9 +574,22 @@ fn lists_of_commands() {
         "wrong password, counter with a gap", "begun, counter with a gap",
         "closed read at F=6", "closed read at F=4", "closed read at F=0",
         "closed read, roll-over", "closed read, whole zone",
+        "staged write stored", "staged write kept out", "staged write, and a cut spent",
+        "staged write kept out, cut kept", "cut, ready", "cut, idle", "finished, and a cut spent",
+        "power with a cut armed", "armed while busy", "armed while off", "armed again",
     ];
     for what in deep {
         met.require(what, 200);
+    }
+    for n in 1..=8 {
+        for after in 0..2 * n + 5 {
+            met.require(&format!("cut in {n} bytes after {after} cells"), 3);
+        }
+    }
+    met.require("finished, 0 bytes", 50);
+    for n in 1..=8 {
+        met.require(&format!("cut again, {n} bytes"), 10);
+        met.require(&format!("finished, {n} bytes"), 50);
     }
     // Only a right password leaves all eight.
     for (kind, most) in [(10, 8), (11, 7)] {
@@ -538,7 +597,13 @@ fn lists_of_commands() {
             met.require(&format!("{left} tries left by kind {kind}"), 200);
         }
     }
-    for (kind, refusals) in [(10, &[5, 7, 8, 9, 11, 12][..]), (11, &[5, 9, 11, 12])] {
+    let of_a_kind: [(u8, &[u8]); 4] = [
+        (10, &[5, 7, 8, 9, 11, 12, 16]),
+        (11, &[5, 9, 11, 12, 16]),
+        (15, &[5, 7, 8, 9, 11, 12, 16]),
+        (16, &[5, 8, 9, 11, 12, 16]),
+    ];
+    for (kind, refusals) in of_a_kind {
         for refusal in refusals {
             met.require(&format!("refusal {refusal} of kind {kind}"), 50);
         }
@@ -577,13 +642,12 @@ fn one_session(rng: &mut Rng, seed: &str, session: &[u8], met: &mut Met) {
             assert_eq!(both::run(seed, session, written).0, 10);
             met.note("log shorter than its space");
         }
-        let logs = [log[..written].to_vec(), gen::without_zones(&log[..written])];
-        for log in &logs {
-            read_log(rng, seed, log, met);
-        }
-        let either = rng.below(2);
-        let damaged = gen::damaged_log(rng, &logs[either]);
+        let log = &log[..written];
+        read_log(rng, seed, log, met);
+        let damaged = gen::damaged_log(rng, log);
         read_log(rng, seed, &damaged, met);
+        let plain = gen::without_zones(log);
+        assert_eq!([0, 1, u64::MAX].map(|number| both::answer(seed, &plain, number)), [13; 3]);
     } else {
         both::run(seed, session, rng.pick(&[0, SHORTEST_LOG - 1, SHORTEST_LOG, 3000]));
     }
@@ -609,13 +673,12 @@ fn sessions_and_logs() {
     met.require("sessions", 5_000);
     met.require("log reads", 20_000);
     met.require("log shorter than its space", 500);
-    for refusal in (0..=10).chain([13, 14]) {
+    for refusal in (0..=10).chain([13, 14, 16]) {
         met.require(&format!("refusal {refusal}"), 100);
     }
 }
 
-/// Every change of one byte behind the card of a session, and of its log in either layout, and
-/// every cut.
+/// Every change of one byte of a session and of its log, from the fuses on, and every shorter one.
 fn changes(session: &[u8]) {
     let (result, space) = both::run(FIXED, session, 3000);
     let log = &space[..(result >> 8) as usize];
@@ -631,12 +694,6 @@ fn changes(session: &[u8]) {
         both::run(FIXED, &session[..length], 3000);
     }
     let count = u64::from(session[session.len() - 4]);
-    for log in [log, &gen::without_zones(log)] {
-        log_changes(log, count);
-    }
-}
-
-fn log_changes(log: &[u8], count: u64) {
     let card_at = log.len() - SHORTEST_LOG;
     let trailer = card_at + FUSES..log.len();
     for at in (0..card_at).chain(trailer) {
@@ -676,7 +733,9 @@ fn every_change_of_a_trailer_or_header() {
         .select(2)
         .read_fuses()
         .write_fuses()
-        .power();
+        .power()
+        .cut(9, 0x5A)
+        .staged_write(0x0F, &[3, 4]);
     changes(&session.session());
 }
 
@@ -707,15 +766,42 @@ fn every_change_of_a_trailer_or_header_met_while_busy() {
 }
 
 #[test]
+fn every_change_of_a_trailer_or_header_of_a_torn_card() {
+    let session = Author::new(7)
+        .put_ready(1, 0x1E, &[1, 2, 3, 4])
+        .text(b"text")
+        .read(0x1E, 2)
+        .poll()
+        .cut(2, 0x99)
+        .power()
+        .write(0x0F, &[3, 4])
+        .wait(9)
+        .power()
+        .select(1)
+        .cut(7, 0x98)
+        .staged_write(0x2F, &[5, 6])
+        .staged_write(0x2F, &[7])
+        .reset()
+        .power()
+        .read(0x20, 2)
+        .cut(6, 0x99)
+        .staged_write(0x30, &[8, 9]);
+    changes(&session.session());
+}
+
+#[test]
 fn every_set_of_faults_in_a_session() {
-    for faults in 0..256 {
+    for faults in 0..512 {
         let has = |bit: u32| faults >> bit & 1 == 1;
         let mut author = Author::new(if has(4) { 5 } else { 6 }).reset();
+        if has(8) {
+            author = author.put(FLAG, [&[0xFD][..], &[READY, 8], &[READY, 7, 0, 9]][faults % 3]);
+        }
         if has(0) {
             author = author.text(&[b' '; LONGEST_SESSION]);
         }
         if has(5) {
-            author = author.record(&[15]);
+            author = author.record(&[17]);
         }
         if has(6) {
             author = author.select(8);
@@ -742,7 +828,7 @@ fn every_set_of_faults_in_a_session() {
 }
 
 /// A log written by hand: these entries' kinds and lengths, zeros for responses, and zones where
-/// the layout has them.
+/// they belong.
 fn written_log(entries: &[(u8, usize)], count: u16, mark: [u8; 2]) -> Vec<u8> {
     let entries = entries.iter().map(|&(kind, length)| {
         let zone = zones::named(kind, mark).then_some(5);
@@ -796,6 +882,10 @@ fn edges_of_length_and_count() {
         // The first write makes the card busy, and it is met so by all the others.
         both::run(FIXED, &many(&[5, 3, 2, 1, 2]), 70_000);
         let reads = Author::new(4).begin().times(usize::from(count) - 1, |a| a.read(3, 0));
+        both::run(FIXED, &reads.session(), 1_100_000);
+        // The same of a card that is cut off at once.
+        let off = Author::new(7).cut(0, 0).staged_write(3, &[1]);
+        let reads = off.times(usize::from(count) - 2, |a| a.read(3, 0));
         both::run(FIXED, &reads.session(), 1_100_000);
     }
 }

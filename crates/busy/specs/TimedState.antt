@@ -1,7 +1,8 @@
 -- The state of the code as that of the model.
 use Rattle.model.specs.Busy as model
 use Rattle.access.specs.State.{volatileOf}
+use Rattle.staging.specs.Fuel.{tearOf}
 use Rattle.busy.specs.declared.State.{State}
 
 abbrev pub stateOf : State → model.State
-stateOf s = record { volatile = volatileOf (s .volatile); busy = s .busy }
+stateOf s = record { volatile = volatileOf (s .volatile); busy = s .busy; off = s .off; tear = tearOf (s .tear) }

@@ -1,55 +1,49 @@
 -- What a record leaves that is not ignored, from what the parts of the code leave: a command, from what it reported and whether it made
--- the card busy; a wait; a poll.
+-- the card busy; a wait; a poll; an arming; what answers nothing.
 use Prim.Native.Nat.{ℕ, _-_, _≤_}
-use mathlib.Core.Bool.{Bool, cond, not, _&&_}
-use mathlib.Core.List.{List, [], _++_}
-use mathlib.Core.Path.{_≡_, refl, ap, _∙_}
-use lib.Dec.{ltb, eqb}
-use lib.ListN.{length, drop, set}
+use mathlib.Core.Bool.{cond}
+use mathlib.Core.List.{List, [], _∷_, _++_}
+use mathlib.Core.Path.{_≡_, refl, sym, ap, _∙_}
+use native.Mathlib.Omega.{arith}
+use lib.Dec.{ltb}
+use lib.ListN.{length, set}
 use lib.Seq.{set-split}
-use Rattle.model.specs.Sizes.{fuseAt}
-use Rattle.model.specs.Lists.{at}
-use Rattle.model.specs.Volatile.{Volatile, isActive}
-use Rattle.model.specs.Command.{Command, writeFuses}
-use Rattle.model.specs.Instruction.{issue, wait, poll}
-use Rattle.model.specs.At88sc1608.{at88sc1608, counterAt}
-use Rattle.model.specs.Busy.{State, timed, writeTime, makesBusy}
+use Rattle.model.specs.Instruction.{Instruction, wait, poll, arm}
+use Rattle.model.specs.At88sc1608.{at88sc1608}
+use Rattle.model.specs.Staging.{tearAfter}
+use Rattle.model.specs.Busy.{State, timed, arming}
 use Rattle.model.specs.Busy as any
-use Rattle.model.specs.Single.{apply}
-use Rattle.laws.specs.Effects.{answerLength}
-use Rattle.carry.specs.Carried.{Carried, Issued}
-
--- what a command leaves, from the state and the tries that were handed on, and whether it made the card busy
-module _ (c : List ℕ) (v : Volatile) (k : Command) (c′ : List ℕ) (v′ : Volatile) (s′ : State) (n tries : ℕ) (b : Bool)
-    (times : s′ ≡ timed v′ (cond b writeTime 0)) (hands : tries ≡ n) (busy : b ≡ makesBusy at88sc1608 c v k) where
-  pub without-tries : n ≡ apply c v k .report .tries → c′ ≡ apply c v k .card → v′ ≡ apply c v k .report .state → Issued c v k c′ s′ tries
-  without-tries used card state =
-      record { card = card; state = times ∙ (λ i. timed (state i) (cond (busy i) writeTime 0)); handed = hands ∙ used }
-
-  pub with-tries : record { state = v′; answer = []; tries = n } ≡ apply c v k .report → c′ ≡ apply c v k .card → Issued c v k c′ s′ tries
-  with-tries q card = without-tries (λ i. q i .tries) card (λ i. q i .state)
+use Rattle.model.specs.Single.{perform}
+use Rattle.laws.specs.BusyLaws.{fullAnswer, full-answer}
+use Rattle.issue.specs.Issued.{Carried}
+use Rattle.carry.specs.Carried.{Performed}
 
 module _ (c : List ℕ) (s : State) (space : List ℕ) where
-  pub answered : (k : Command) (c′ : List ℕ) (s′ : State) (tries : ℕ) (space′ : List ℕ) → Issued c (s .volatile) k c′ s′ tries
-      → space′ ≡ apply c (s .volatile) k .report .answer ++ drop (answerLength at88sc1608 k) space → Carried c s (issue k) space c′ s′ tries space′
-  unfolding any.perform
-  answered k c′ s′ tries space′ w e = record { card = w .card; state = w .state; handed = w .handed; answer = e }
-
-  pub passed : (n left tries : ℕ) (s′ t : State) → s′ ≡ t → tries ≡ 0 → t ≡ timed (s .volatile) left → left ≡ s .busy - n
+  pub passed : (n left tries : ℕ) (s′ t : State) → s′ ≡ t → tries ≡ 0 → t ≡ timed s (s .volatile) left → left ≡ s .busy - n
       → Carried c s (wait n) space c s′ tries space
   unfolding any.perform
-  passed n left tries s′ t e z p q = record { card = refl; state = e ∙ p ∙ ap (timed (s .volatile)) q; handed = z; answer = refl }
+  passed n left tries s′ t e z p q = record { card = refl; state = e ∙ p ∙ ap (timed s (s .volatile)) q; handed = z; answer = refl }
 
-  pub polled : (b tries : ℕ) (s′ t : State) → s′ ≡ t → tries ≡ 0 → t ≡ s → 1 ≤ length space → b ≡ cond (ltb 0 (s .busy)) 1 0
+  pub polled : (b tries : ℕ) (s′ : State) → s′ ≡ s → tries ≡ 0 → 1 ≤ length space → b ≡ cond (ltb 0 (s .busy)) 1 0
       → Carried c s poll space c s′ tries (set space 0 b)
   unfolding any.perform
-  polled b tries s′ t e z p h q = record { card = refl; state = e ∙ p; handed = z; answer = rw (← q) (set-split space 0 b h) }
+  polled b tries s′ e z h q = record { card = refl; state = e; handed = z; answer = rw (← q) (set-split space 0 b h) }
 
--- a counter that is read where it lies
-pub counter-left : (c : List ℕ) (k i : ℕ) → i ≡ counterAt k → not (eqb (at c i) 0) ≡ not (eqb (at c (counterAt k)) 0)
-counter-left c k i e = ap (λ (j : ℕ). not (eqb (at c j) 0)) e
+  pub armed : (n junk tries : ℕ) (s′ t : State) → s′ ≡ t → tries ≡ 0 → t ≡ arming s (tearAfter n junk) → Carried c s (arm n junk) space c s′ tries space
+  unfolding any.perform
+  armed n junk tries s′ t e z p = record { card = refl; state = e ∙ p; handed = z; answer = refl }
 
--- a fuse that is left for whom it is allowed
-pub fuse-left : (c : List ℕ) (v : Volatile) (t u : Bool) → t ≡ isActive (v .active) 7 → u ≡ (t && not (eqb (at c fuseAt) 0))
-    → u ≡ makesBusy at88sc1608 c v writeFuses
-fuse-left c v t u p q = q ∙ ap (λ (b : Bool). b && not (eqb (at c fuseAt) 0)) p
+  -- what answers nothing
+  pub performed : (i : Instruction) (c′ : List ℕ) (s′ : State) (tries : ℕ) → Performed c s i c′ s′ tries → fullAnswer at88sc1608 i ≡ 0
+      → Carried c s i space c′ s′ tries space
+  performed i c′ s′ tries w e =
+      record {
+        card = w .card;
+        state = w .state;
+        handed = w .handed;
+        answer = sym (rw e (ap (λ (x : List ℕ). x ++ space) (none (perform c s i .report .answer) (full-answer at88sc1608 c s i ∙ e))));
+      }
+    where
+      none : (x : List ℕ) → length x ≡ 0 → x ≡ []
+      none [] q = refl
+      none (y ∷ ys) q = absurd (let z : ⊥ = omega arith in z)

@@ -1,1 +1,2 @@
 mod CarriedLaws
+mod StagedLaws

@@ -8,7 +8,7 @@ use lib.Dec.{ltb}
 use lib.ListN.{length, drop}
 use Rattle.model.specs.Instruction.{Instruction, kindOf}
 use Rattle.model.specs.At88sc1608.{at88sc1608}
-use Rattle.model.specs.Busy.{State, actsAlways, ignores}
+use Rattle.model.specs.Busy.{State, actsAlways, actsBusy, isHalted, ignores}
 use Rattle.model.specs.Record.{made}
 use Rattle.laws.specs.BoolLaws.{and-left}
 use Rattle.laws.specs.BusyLaws.{fullAnswer, act-ignored, act-performed, full-answer}
@@ -16,23 +16,25 @@ use Rattle.laws.specs.RecordLaws.{decode-ranged, decode-within}
 use Rattle.record.specs.DecodedRecord.{headOf}
 use Rattle.record.specs.HeadLaws.{head-known, head-kind, head-answer}
 use Rattle.record.specs.declared.decoder.Head.{Head}
-use Rattle.carry.specs.Carried.{Ready, Carried, ActReady, Acted}
+use Rattle.issue.specs.Issued.{Ready, Carried}
+use Rattle.carry.specs.Carried.{ActReady, Acted}
 
 module _ (c : List ℕ) (s : State) (i : Instruction) (bytes : List ℕ) (end : ℕ) (space : List ℕ) (h : Head)
     (r : (h ≡ headOf bytes) × ActReady c s i bytes end space) where
-  pub act-known : h .kind ≤ 14
+  pub act-known : (1 ≤ h .kind) × (h .kind ≤ 16)
   act-known = head-known bytes i end (r .1 .decodes) h (r .0)
 
   kind-same : h .kind ≡ kindOf i
   kind-same = head-kind bytes i end (r .1 .decodes) h (r .0)
 
-  module _ (t : Bool) (tested : t ≡ (ltb 0 (s .busy) && not (actsAlways (h .kind)))) where
-    test-same : t ≡ ignores s i
-    test-same = tested ∙ ap (λ (k : ℕ). ltb 0 (s .busy) && not (actsAlways k)) kind-same
+  module _ (b t : Bool) (halts : b ≡ isHalted at88sc1608 c s) (tested : t ≡ cond b (not (actsAlways (h .kind)))
+      (ltb 0 (s .busy) && not (actsBusy (h .kind)))) where
+    test-same : t ≡ ignores at88sc1608 c s i
+    test-same = tested ∙ (λ j. cond (halts j) (not (actsAlways (kind-same j))) (ltb 0 (s .busy) && not (actsBusy (kind-same j))))
 
     pub acted-ignored : t ≡ true → Acted c s i space c (h .kind + 128) 0 s 0 space
     acted-ignored q =
-        let e : ignores s i ≡ true = sym test-same ∙ q in
+        let e : ignores at88sc1608 c s i ≡ true = sym test-same ∙ q in
         let a = sym (act-ignored at88sc1608 c s i e) in
         record {
           card = λ j. a j .card;
@@ -44,13 +46,14 @@ module _ (c : List ℕ) (s : State) (i : Instruction) (bytes : List ℕ) (end : 
         }
 
     module _ (q : t ≡ false) where
-      heeded : ignores s i ≡ false
+      heeded : ignores at88sc1608 c s i ≡ false
       heeded = sym test-same ∙ q
 
       pub carry-ready : Ready c s i bytes end space
       carry-ready =
           record {
             long = r .1 .good .fit .long;
+            staging = r .1 .good .fit .staging;
             zone = ltb-true (s .volatile .zone) 8 (and-left _ _ (r .1 .good .fit .range));
             ranged = decode-ranged bytes i end (r .1 .decodes);
             within = decode-within bytes i end (r .1 .decodes) .1;

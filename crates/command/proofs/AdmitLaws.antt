@@ -8,14 +8,15 @@ use lib.Dec.{ltb}
 use lib.ListN.{length}
 use Rattle.model.specs.Sizes.{cardSize, fuseAt}
 use Rattle.model.specs.Lists.{at}
-use Rattle.model.specs.Busy.{State, isBusy, actsAlways}
+use Rattle.model.specs.Busy.{State, isBusy, actsAlways, actsBusy, isHalted}
 use Rattle.model.specs.Call.{refused, whole}
 use Rattle.model.specs.Call as calls
 use Rattle.model.specs.At88sc1608.{at88sc1608}
 use Rattle.laws.specs.BusyLaws.{fullAnswer, given-answer}
+use Rattle.laws.specs.Sane.{good-check}
 use Rattle.model.specs.Record.{made, decode}
-use Rattle.model.specs.Refusal.{cardLength, fuseByte, stateOutOfRange, bytesLeft, noSpace}
-use Rattle.model.specs.Single.{isFuseByte, stateInRange, checkOf, check, act, admission}
+use Rattle.model.specs.Refusal.{cardLength, fuseByte, stagingBytes, stateOutOfRange, bytesLeft, noSpace}
+use Rattle.model.specs.Single.{isFuseByte, stagingFits, stateInRange, checkOf, check, act, admission}
 use Rattle.record.specs.DecodedRecord.{instructionOf, headOf}
 use Rattle.record.specs.HeadLaws.{head-known, head-kind, head-answer}
 use Rattle.record.specs.RefusalNumber.{refusalNumber, number-some}
@@ -35,14 +36,19 @@ module _ (c : List ℕ) (s : State) where
     unfolding checkOf
     bad-fuses e = rw (eq-eqb _ _ long, ← fuses, e)
 
-    module _ (ok′ : Bool) (fine : not ok ≡ false) (range : ok′ ≡ stateInRange at88sc1608 s) where
-      pub bad-state : not ok′ ≡ true → stateOutOfRange ≡ check c s
+    module _ (sound : Bool) (fine : not ok ≡ false) (staging : sound ≡ stagingFits c) where
+      pub bad-staging : not sound ≡ true → stagingBytes ≡ check c s
       unfolding checkOf
-      bad-state e = rw (eq-eqb _ _ long, ← fuses, fine, ← range, e)
+      bad-staging e = rw (eq-eqb _ _ long, ← fuses, fine, ← staging, e)
 
-      pub all-well : not ok′ ≡ false → 0 ≡ check c s
-      unfolding checkOf
-      all-well e = rw (eq-eqb _ _ long, ← fuses, fine, ← range, e)
+      module _ (ok′ : Bool) (good : not sound ≡ false) (range : ok′ ≡ stateInRange at88sc1608 s) where
+        pub bad-state : not ok′ ≡ true → stateOutOfRange ≡ check c s
+        unfolding checkOf
+        bad-state e = rw (eq-eqb _ _ long, ← fuses, fine, ← staging, good, ← range, e)
+
+        pub all-well : not ok′ ≡ false → 0 ≡ check c s
+        unfolding checkOf
+        all-well e = rw (eq-eqb _ _ long, ← fuses, fine, ← staging, good, ← range, e)
 
 -- ---- admission
 
@@ -57,22 +63,27 @@ module _ (c : List ℕ) (s : State) (bytes : List ℕ) (room : ℕ) where
     record-refused n e = rw (← passed, ← e)
 
     module _ (r : Record) (n : ℕ) (decoded : whole (instructionOf bytes n r) n ≡ decode bytes) where
+      -- the checks have passed, so the card has its length
+      pub passed-long : length c ≡ cardSize
+      passed-long = good-check c s (sym passed) .fit .long
+
       pub left-over : n < length bytes → refused bytesLeft ≡ admission c s bytes room
       unfolding calls.admission
       left-over l = rw (← passed, ← decoded, lt-ltb _ _ l)
 
       module _ (h : Head) (head : h ≡ headOf bytes) where
-        pub known-head : h .kind ≤ 14
+        pub known-head : (1 ≤ h .kind) × (h .kind ≤ 16)
         known-head = head-known bytes (instructionOf bytes n r) n (sym decoded) h head
 
-        module _ (m : ℕ) (all : length bytes ≤ n)
-            (long : m ≡ cond (ltb 0 (s .busy) && not (actsAlways (h .kind))) 0 (fullAnswer at88sc1608 (made (h .kind) 0 (h .n) []))) where
+        module _ (m : ℕ) (all : length bytes ≤ n) (b : Bool) (halts : b ≡ isHalted at88sc1608 c s)
+            (long : m ≡ cond (cond b (not (actsAlways (h .kind))) (ltb 0 (s .busy) && not (actsBusy (h .kind)))) 0
+            (fullAnswer at88sc1608 (made (h .kind) 0 (h .n) []))) where
           answered : length (act c s (instructionOf bytes n r) .report .answer) ≡ m
           answered =
               let k = head-kind bytes (instructionOf bytes n r) n (sym decoded) h head in
               let a = head-answer bytes (instructionOf bytes n r) n (sym decoded) h head in
               given-answer at88sc1608 c s (instructionOf bytes n r)
-              ∙ sym (long ∙ (λ i. cond (isBusy s && not (actsAlways (k i))) 0 (a i)))
+              ∙ sym (long ∙ (λ i. cond (cond (halts i) (not (actsAlways (k i))) (isBusy s && not (actsBusy (k i)))) 0 (a i)))
 
           pub no-room : room < m → refused noSpace ≡ admission c s bytes room
           unfolding calls.admission

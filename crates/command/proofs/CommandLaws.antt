@@ -1,11 +1,12 @@
 -- The single command, from its admission and from what was carried out.
 use Prim.Native.Nat.{ℕ, _+_, _≤_}
-use mathlib.Core.Bool.{Bool, true, false, not, _&&_}
+use mathlib.Core.Bool.{Bool, true, false, cond, not, _&&_}
 use mathlib.Core.List.{List, [], _++_}
 use mathlib.Core.Path.{_≡_, sym, _∙_}
 use lib.Dec.{ltb}
 use lib.ListN.{length, drop}
-use Rattle.model.specs.Busy.{State, actsAlways}
+use Rattle.model.specs.Sizes.{cardSize}
+use Rattle.model.specs.Busy.{State, actsAlways, actsBusy, isHalted}
 use Rattle.model.specs.Instruction.{Instruction}
 use Rattle.model.specs.Call.{refused, whole, calling, refusing}
 use Rattle.model.specs.Call as calls
@@ -18,7 +19,8 @@ use Rattle.model.specs.Single.{check, act, admission, command}
 use Rattle.record.specs.DecodedRecord.{headOf, askedBy}
 use Rattle.record.specs.HeadLaws.{head-instruction}
 use Rattle.record.specs.declared.decoder.Head.{Head}
-use Rattle.carry.specs.Carried.{Ready, Carried, ActReady, Acted}
+use Rattle.issue.specs.Issued.{Ready, Carried}
+use Rattle.carry.specs.Carried.{ActReady, Acted}
 use Rattle.carry.specs.ActLaws.{act-known, acted-ignored, carry-ready, acted-carried}
 
 module _ (c : List ℕ) (s : State) (bytes space : List ℕ) where
@@ -37,7 +39,7 @@ module _ (c : List ℕ) (s : State) (bytes space : List ℕ) where
     ready : (h ≡ headOf bytes) × ActReady c s i bytes n space
     ready = (head, record { good = good-check c s (a .checks); decodes = a .decodes; room = rw (given-answer at88sc1608 c s i) at (a .fits) })
 
-    pub call-known : h .kind ≤ 14
+    pub call-known : (1 ≤ h .kind) × (h .kind ≤ 16)
     call-known = act-known c s i bytes n space h ready
 
     call-acted : (c′ : List ℕ) (kind size : ℕ) (s′ : State) (tries : ℕ) (space′ : List ℕ) → Acted c s i space c′ kind size s′ tries space′
@@ -58,15 +60,20 @@ module _ (c : List ℕ) (s : State) (bytes space : List ℕ) where
           };
         })
 
-    module _ (t : Bool) (tested : t ≡ (ltb 0 (s .busy) && not (actsAlways (h .kind)))) where
+    -- the card has its length
+    pub call-long : length c ≡ cardSize
+    call-long = ready .1 .good .fit .long
+
+    module _ (b t : Bool) (halts : b ≡ isHalted at88sc1608 c s)
+        (tested : t ≡ cond b (not (actsAlways (h .kind))) (ltb 0 (s .busy) && not (actsBusy (h .kind)))) where
       pub call-ignored : t ≡ true
           → record { card = c; reply = record { refusal = 0; kind = h .kind + 128; size = 0; state = s; tries = 0; space = space } }
           ≡ command c s (calling bytes space)
-      call-ignored q = call-acted c (h .kind + 128) 0 s 0 space (acted-ignored c s i bytes n space h ready t tested q)
+      call-ignored q = call-acted c (h .kind + 128) 0 s 0 space (acted-ignored c s i bytes n space h ready b t halts tested q)
 
       module _ (q : t ≡ false) where
         pub call-ready : Ready c s (askedBy bytes n h) bytes n space
-        call-ready = rw asked (carry-ready c s i bytes n space h ready t tested q)
+        call-ready = rw asked (carry-ready c s i bytes n space h ready b t halts tested q)
 
         pub call-carried : (m : ℕ) (c′ : List ℕ) (s′ : State) (tries : ℕ) (space′ : List ℕ) → m ≡ fullAnswer at88sc1608 (made (h .kind) 0 (h .n) [])
             → Carried c s (askedBy bytes n h) space c′ s′ tries space′
@@ -74,4 +81,4 @@ module _ (c : List ℕ) (s : State) (bytes space : List ℕ) where
             ≡ command c s (calling bytes space)
         call-carried m c′ s′ tries space′ p w =
             call-acted c′ (h .kind) m s′ tries space′
-            (acted-carried c s i bytes n space h ready t tested q m c′ s′ tries space′ p (rw asked at w))
+            (acted-carried c s i bytes n space h ready b t halts tested q m c′ s′ tries space′ p (rw asked at w))

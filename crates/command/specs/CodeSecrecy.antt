@@ -10,15 +10,16 @@ use lib.ListN.{length}
 use Rattle.model.specs.Call.{Call, Powered, powered, step}
 use Rattle.model.specs.Call as calls
 use Rattle.model.specs.Lists.{at}
-use Rattle.model.specs.Busy.{powerOn, answeredKind}
+use Rattle.model.specs.Staging.{Tear}
+use Rattle.model.specs.Busy.{poweredUp}
 use Rattle.model.specs.Busy as model
 use Rattle.model.specs.Access.{rpe, ate, passwordSet}
 use Rattle.model.specs.At88sc1608.{at88sc1608}
 use Rattle.model.specs.Device.{Counter, counterPlace}
 use Rattle.model.specs.Record.{decode}
-use Rattle.model.specs.Single.{check, act, command, replies, final}
-use Rattle.secrecy.specs.Secret.{Sealed, register, inZone, inZoneOrPasswords, AgreeOutside}
-use Rattle.secrecy.specs.Secret.{PresentsNeither, AcceptsNot, Throughout, Indistinguishable}
+use Rattle.model.specs.Single.{check, answeredKind, act, command, replies, final}
+use Rattle.secrecy.specs.Secret.{Sealed, Idle, register, inZone, inZoneOrPasswords, orStaged, AgreeOutside}
+use Rattle.secrecy.specs.Secret.{PresentsNeither, AcceptsNot, Throughout, ThroughoutElsewhere, Indistinguishable}
 use Rattle.secrecy.specs.CardSecrecy as model-claims
 use Rattle.busy.specs.TimedState.{stateOf}
 use Rattle.busy.specs.declared.State.{State}
@@ -42,7 +43,7 @@ pub data Run : List Call → List ℕ → State → List Given → List ℕ → 
 abbrev replyOf : Given → calls.Reply model.State
 replyOf g = calledOf (g .reply) [] (g .space) .reply
 
-run-model : {xs : List Call} {c e : List ℕ} {s : State} {gs : List Given} → Run xs c s gs e
+pub run-model : {xs : List Call} {c e : List ℕ} {s : State} {gs : List Given} → Run xs c s gs e
     → (map replyOf gs ≡ replies xs (powered c (stateOf s))) × (e ≡ final xs (powered c (stateOf s)) .card)
 unfolding calls.replies calls.final
 run-model none = (refl, refl)
@@ -78,13 +79,14 @@ pub record NotToldApart (hidden : ℕ → Bool) (gs₁ gs₂ : List Given) (d₁
   pub counters : (n : Counter) → at d₁ (counterPlace at88sc1608 n) ≡ at d₂ (counterPlace at88sc1608 n)
   pub outside : (i : ℕ) → hidden i ≡ false → at d₁ i ≡ at d₂ i
 
-from-model : (hidden : ℕ → Bool) (xs : List Call) (b₁ b₂ : List ℕ) (s : State) (gs₁ gs₂ : List Given) (d₁ d₂ : List ℕ) → stateOf s ≡ powerOn
-    → Run xs b₁ s gs₁ d₁ → Run xs b₂ s gs₂ d₂ → Indistinguishable hidden xs b₁ b₂ → NotToldApart hidden gs₁ gs₂ d₁ d₂
-from-model hidden xs b₁ b₂ s gs₁ gs₂ d₁ d₂ e r₁ r₂ w =
+from-model : (hidden : ℕ → Bool) (tear : Tear) (xs : List Call) (b₁ b₂ : List ℕ) (s : State) (gs₁ gs₂ : List Given) (d₁ d₂ : List ℕ)
+    → stateOf s ≡ poweredUp tear
+    → Run xs b₁ s gs₁ d₁ → Run xs b₂ s gs₂ d₂ → Indistinguishable hidden tear xs b₁ b₂ → NotToldApart hidden gs₁ gs₂ d₁ d₂
+from-model hidden tear xs b₁ b₂ s gs₁ gs₂ d₁ d₂ e r₁ r₂ w =
     let m₁ = run-model r₁ in
     let m₂ = run-model r₂ in
-    let f₁ : d₁ ≡ final xs (powered b₁ powerOn) .card = m₁ .1 ∙ ap (λ (t : model.State). final xs (powered b₁ t) .card) e in
-    let f₂ : d₂ ≡ final xs (powered b₂ powerOn) .card = m₂ .1 ∙ ap (λ (t : model.State). final xs (powered b₂ t) .card) e in
+    let f₁ : d₁ ≡ final xs (powered b₁ (poweredUp tear)) .card = m₁ .1 ∙ ap (λ (t : model.State). final xs (powered b₁ t) .card) e in
+    let f₂ : d₂ ≡ final xs (powered b₂ (poweredUp tear)) .card = m₂ .1 ∙ ap (λ (t : model.State). final xs (powered b₂ t) .card) e in
     record {
       observed =
           all-injective gs₁ gs₂
@@ -95,19 +97,33 @@ from-model hidden xs b₁ b₂ s gs₁ gs₂ d₁ d₂ e r₁ r₂ w =
       outside = λ i h. rw (f₁, f₂) (w .outside i h);
     }
 
--- the read password, as `CardSecrecy` of crate `secrecy` has it, for every two runs of the code from power-up
-pub read-password : (z : ℕ) → z < 8 → (b₁ b₂ : List ℕ) → Sealed b₁ → Sealed b₂ → rpe (register b₁ z) ≡ true
-    → AgreeOutside (inZoneOrPasswords z (passwordSet (register b₁ z))) b₁ b₂
-    → (xs : List Call) → Throughout (PresentsNeither (passwordSet (register b₁ z)) b₁ b₂) xs b₁
-    → (s : State) (gs₁ gs₂ : List Given) (d₁ d₂ : List ℕ) → stateOf s ≡ powerOn → Run xs b₁ s gs₁ d₁ → Run xs b₂ s gs₂ d₂
-    → NotToldApart (inZoneOrPasswords z (passwordSet (register b₁ z))) gs₁ gs₂ d₁ d₂
-read-password z l b₁ b₂ s₁ s₂ r h xs a s gs₁ gs₂ d₁ d₂ e r₁ r₂ =
-    from-model (inZoneOrPasswords z (passwordSet (register b₁ z))) xs b₁ b₂ s gs₁ gs₂ d₁ d₂ e r₁ r₂ (model-claims.read-password z l b₁ b₂ s₁ s₂ r h xs a)
+-- The read password, as `CardSecrecy` of crate `secrecy` has it, for every two runs of the code from power-up with a tear armed or none; and where
+-- no staged write writes to the zone.
+module _ (z : ℕ) (zone : z < 8) (b₁ b₂ : List ℕ) (sealed₁ : Sealed b₁) (sealed₂ : Sealed b₂) (idle : Idle b₁) (demanded : rpe (register b₁ z) ≡ true)
+    (agree : AgreeOutside (inZoneOrPasswords z (passwordSet (register b₁ z))) b₁ b₂) (tear : Tear) (xs : List Call) (s : State) (gs₁ gs₂ : List Given)
+    (d₁ d₂ : List ℕ) (up : stateOf s ≡ poweredUp tear) (run₁ : Run xs b₁ s gs₁ d₁) (run₂ : Run xs b₂ s gs₂ d₂) where
+  pub read-password : Throughout (PresentsNeither (passwordSet (register b₁ z)) b₁ b₂) tear xs b₁
+      → NotToldApart (orStaged (inZoneOrPasswords z (passwordSet (register b₁ z)))) gs₁ gs₂ d₁ d₂
+  read-password a =
+      from-model (orStaged (inZoneOrPasswords z (passwordSet (register b₁ z)))) tear xs b₁ b₂ s gs₁ gs₂ d₁ d₂ up run₁ run₂
+      (model-claims.read-password z zone b₁ b₂ sealed₁ sealed₂ idle demanded agree tear xs a)
+
+  pub read-password-elsewhere : ThroughoutElsewhere z (PresentsNeither (passwordSet (register b₁ z)) b₁ b₂) tear xs b₁
+      → NotToldApart (inZoneOrPasswords z (passwordSet (register b₁ z))) gs₁ gs₂ d₁ d₂
+  read-password-elsewhere a =
+      from-model (inZoneOrPasswords z (passwordSet (register b₁ z))) tear xs b₁ b₂ s gs₁ gs₂ d₁ d₂ up run₁ run₂
+      (model-claims.read-password-elsewhere z zone b₁ b₂ sealed₁ sealed₂ idle demanded agree tear xs a)
 
 -- authentication, likewise
-pub authentication-demanded : (z : ℕ) → z < 8 → (b₁ b₂ : List ℕ) → Sealed b₁ → Sealed b₂ → ate (register b₁ z) ≡ true
-    → AgreeOutside (inZone z) b₁ b₂ → (xs : List Call) → Throughout AcceptsNot xs b₁
-    → (s : State) (gs₁ gs₂ : List Given) (d₁ d₂ : List ℕ) → stateOf s ≡ powerOn → Run xs b₁ s gs₁ d₁ → Run xs b₂ s gs₂ d₂
-    → NotToldApart (inZone z) gs₁ gs₂ d₁ d₂
-authentication-demanded z l b₁ b₂ s₁ s₂ r h xs a s gs₁ gs₂ d₁ d₂ e r₁ r₂ =
-    from-model (inZone z) xs b₁ b₂ s gs₁ gs₂ d₁ d₂ e r₁ r₂ (model-claims.authentication-demanded z l b₁ b₂ s₁ s₂ r h xs a)
+module _ (z : ℕ) (zone : z < 8) (b₁ b₂ : List ℕ) (sealed₁ : Sealed b₁) (sealed₂ : Sealed b₂) (idle : Idle b₁) (demanded : ate (register b₁ z) ≡ true)
+    (agree : AgreeOutside (inZone z) b₁ b₂) (tear : Tear) (xs : List Call) (s : State) (gs₁ gs₂ : List Given) (d₁ d₂ : List ℕ)
+    (up : stateOf s ≡ poweredUp tear) (run₁ : Run xs b₁ s gs₁ d₁) (run₂ : Run xs b₂ s gs₂ d₂) where
+  pub authentication-demanded : Throughout AcceptsNot tear xs b₁ → NotToldApart (orStaged (inZone z)) gs₁ gs₂ d₁ d₂
+  authentication-demanded a =
+      from-model (orStaged (inZone z)) tear xs b₁ b₂ s gs₁ gs₂ d₁ d₂ up run₁ run₂
+      (model-claims.authentication-demanded z zone b₁ b₂ sealed₁ sealed₂ idle demanded agree tear xs a)
+
+  pub authentication-demanded-elsewhere : ThroughoutElsewhere z AcceptsNot tear xs b₁ → NotToldApart (inZone z) gs₁ gs₂ d₁ d₂
+  authentication-demanded-elsewhere a =
+      from-model (inZone z) tear xs b₁ b₂ s gs₁ gs₂ d₁ d₂ up run₁ run₂
+      (model-claims.authentication-demanded-elsewhere z zone b₁ b₂ sealed₁ sealed₂ idle demanded agree tear xs a)

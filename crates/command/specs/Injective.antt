@@ -4,12 +4,17 @@ use mathlib.Core.Bool.{cond}
 use mathlib.Core.Path.{_≡_, refl, sym, ap, _∙_}
 use lib.Dec.{eqb}
 use Rattle.model.specs.Volatile as model
+use Rattle.model.specs.Staging as staging
+use Rattle.model.specs.Busy as busy
 use Rattle.access.specs.State.{activeOf, authenticationOf, volatileOf}
 use Rattle.access.specs.declared.volatile.Active.{Active}
 use Rattle.access.specs.declared.volatile.Active.the-variants as active
 use Rattle.access.specs.declared.volatile.Authentication.{Authentication}
 use Rattle.access.specs.declared.volatile.Authentication.the-variants as authentication
 use Rattle.access.specs.declared.volatile.Volatile.{Volatile}
+use Rattle.staging.specs.Fuel.{tearOf}
+use Rattle.staging.specs.declared.tear.Tear.{Tear}
+use Rattle.staging.specs.declared.tear.Tear.the-variants as tear
 use Rattle.busy.specs.TimedState.{stateOf}
 use Rattle.busy.specs.declared.State.{State}
 use Rattle.record.specs.RefusalNumber.{refusalNumber, outcomeNumber}
@@ -28,6 +33,10 @@ authenticationFrom model.idle = authentication.Idle
 authenticationFrom model.begun = authentication.Begun
 authenticationFrom model.granted = authentication.Granted
 
+abbrev pub tearFrom : staging.Tear → Tear
+tearFrom staging.untorn = tear.Untorn
+tearFrom (staging.tearAfter k junk) = tear.After k junk
+
 abbrev pub outcomeFrom : ℕ → Outcome
 outcomeFrom n =
     cond (eqb n 0) outcome.Accepted
@@ -43,7 +52,9 @@ outcomeFrom n =
     (cond (eqb n 9) refusal.BytesLeft
     (cond (eqb n 10) refusal.NoSpace
     (cond (eqb n 11) refusal.CardLength
-    (cond (eqb n 12) refusal.StateOutOfRange (cond (eqb n 13) refusal.NotALog (cond (eqb n 14) refusal.NoSuchAnswer refusal.TitleLength)))))))))))))))
+    (cond (eqb n 12) refusal.StateOutOfRange
+    (cond (eqb n 13) refusal.NotALog
+    (cond (eqb n 14) refusal.NoSuchAnswer (cond (eqb n 15) refusal.TitleLength refusal.StagingBytes))))))))))))))))
 
 active-back : (a : Active) → activeFrom (activeOf a) ≡ a
 active-back active.None = refl
@@ -53,6 +64,10 @@ authentication-back : (a : Authentication) → authenticationFrom (authenticatio
 authentication-back authentication.Idle = refl
 authentication-back authentication.Begun = refl
 authentication-back authentication.Granted = refl
+
+tear-back : (t : Tear) → tearFrom (tearOf t) ≡ t
+tear-back tear.Untorn = refl
+tear-back (tear.After k junk) = refl
 
 refused-back : (r : Refusal) → outcomeFrom (refusalNumber r) ≡ outcome.Refused r
 refused-back refusal.SessionLength = refl
@@ -70,6 +85,7 @@ refused-back refusal.StateOutOfRange = refl
 refused-back refusal.NotALog = refl
 refused-back refusal.NoSuchAnswer = refl
 refused-back refusal.TitleLength = refl
+refused-back refusal.StagingBytes = refl
 
 outcome-back : (o : Outcome) → outcomeFrom (outcomeNumber o) ≡ o
 outcome-back outcome.Accepted = refl
@@ -86,7 +102,8 @@ volatile-injective v w e =
     ∙ authentication-back (w .authentication) in
     λ i. record { zone = record { 0 = e i .zone }; active = a i; authentication = t i }
 
-pub state-injective : (s t : State) → stateOf s ≡ stateOf t → s ≡ t
-state-injective s t e =
-    let v = volatile-injective (s .volatile) (t .volatile) (λ i. e i .volatile) in
-    λ i. record { volatile = v i; busy = e i .busy }
+pub state-injective : (s u : State) → stateOf s ≡ stateOf u → s ≡ u
+state-injective s u e =
+    let v = volatile-injective (s .volatile) (u .volatile) (λ i. e i .volatile) in
+    let t : s .tear ≡ u .tear = sym (tear-back (s .tear)) ∙ ap (λ (x : busy.State). tearFrom (x .tear)) e ∙ tear-back (u .tear) in
+    λ i. record { volatile = v i; busy = e i .busy; off = e i .off; tear = t i }

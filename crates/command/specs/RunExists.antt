@@ -7,17 +7,19 @@ use Rattle.model.specs.Call.{Call}
 use Rattle.model.specs.Call as calls
 use Rattle.laws.specs.Tables.{agree-at}
 use Rattle.model.specs.Volatile as model
+use Rattle.model.specs.Staging as staging
 use Rattle.model.specs.Busy as busy
 use Rattle.model.specs.Single.{command}
 use Rattle.laws.specs.SingleLaws.{refusal-small}
 use Rattle.access.specs.State.{activeOf, authenticationOf, volatileOf}
 use Rattle.access.specs.declared.volatile.Volatile.{Volatile}
+use Rattle.staging.specs.Fuel.{tearOf}
 use Rattle.busy.specs.TimedState.{stateOf}
 use Rattle.busy.specs.declared.State.{State}
 use Rattle.command.specs.declared.Reply.{Reply}
 use Rattle.record.specs.RefusalNumber.{outcomeNumber}
 use Rattle.command.specs.Reply.{calledOf}
-use Rattle.command.specs.Injective.{activeFrom, authenticationFrom, outcomeFrom}
+use Rattle.command.specs.Injective.{activeFrom, authenticationFrom, tearFrom, outcomeFrom}
 use Rattle.command.specs.CodeSecrecy.{Given, Run, none, one-more}
 
 -- the code's state and reply for those of the model
@@ -25,7 +27,7 @@ abbrev volatileFrom : model.Volatile → Volatile
 volatileFrom v = record { zone = record { 0 = v .zone }; active = activeFrom (v .active); authentication = authenticationFrom (v .authentication) }
 
 abbrev stateFrom : busy.State → State
-stateFrom s = record { volatile = volatileFrom (s .volatile); busy = s .busy }
+stateFrom s = record { volatile = volatileFrom (s .volatile); busy = s .busy; off = s .off; tear = tearFrom (s .tear) }
 
 abbrev givenFrom : calls.Reply busy.State → Given
 givenFrom r =
@@ -43,14 +45,18 @@ authentication-there model.idle = refl
 authentication-there model.begun = refl
 authentication-there model.granted = refl
 
+tear-there : (t : staging.Tear) → tearOf (tearFrom t) ≡ t
+tear-there staging.untorn = refl
+tear-there (staging.tearAfter k junk) = refl
+
 volatile-there : (v : model.Volatile) → volatileOf (volatileFrom v) ≡ v
 volatile-there v = λ i. record { zone = v .zone; active = active-there (v .active) i; authentication = authentication-there (v .authentication) i }
 
 state-there : (s : busy.State) → stateOf (stateFrom s) ≡ s
-state-there s = λ i. record { volatile = volatile-there (s .volatile) i; busy = s .busy }
+state-there s = λ i. record { volatile = volatile-there (s .volatile) i; busy = s .busy; off = s .off; tear = tear-there (s .tear) i }
 
-outcome-there : (n : ℕ) → n ≤ 14 → outcomeNumber (outcomeFrom n) ≡ n
-outcome-there n h = agree-at (λ m. outcomeNumber (outcomeFrom m)) (λ m. m) 15 refl n (omega arith)
+outcome-there : (n : ℕ) → n ≤ 16 → outcomeNumber (outcomeFrom n) ≡ n
+outcome-there n h = agree-at (λ m. outcomeNumber (outcomeFrom m)) (λ m. m) 17 refl n (omega arith)
 
 call-given : (c : List ℕ) (s : busy.State) (x : Call)
     → calledOf (givenFrom (command c s x .reply) .reply) (command c s x .card) (givenFrom (command c s x .reply) .space) ≡ command c s x

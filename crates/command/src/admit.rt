@@ -1,4 +1,4 @@
-// Whether a call is refused, or which record it carries out: 11, 5, 12, the record, 9, 10.
+// Whether a call is refused, or which record it carries out: 11, 5, 16, 12, the record, 9, 10.
 ghost use mathlib.Core.Path.{_≡_};
 ghost use Rattle.model.specs.At88sc1608.{at88sc1608};
 ghost use Rattle.model.specs.Single as model;
@@ -6,7 +6,7 @@ ghost use mathlib.Core.Bool.{cond, not, _&&_};
 ghost use mathlib.Core.List.{[]};
 ghost use Prim.Native.Nat.{_≤_};
 ghost use lib.Dec.{ltb};
-ghost use Rattle.model.specs.Busy.{actsAlways};
+ghost use Rattle.model.specs.Busy.{actsAlways, actsBusy};
 ghost use Rattle.model.specs.Record.{made};
 ghost use Rattle.laws.specs.BusyLaws.{fullAnswer};
 ghost use Rattle.access.specs.State.{activeOf, volatileOf};
@@ -17,6 +17,7 @@ use access::rights::is_fuse_byte;
 use access::volatile::Active;
 use access::volatile::Volatile;
 use busy::State;
+use busy::is_halted;
 use busy::is_ignored;
 use record::decoder::Decoded;
 use record::decoder::Head;
@@ -27,6 +28,7 @@ use record::refusal::Outcome;
 use record::refusal::Refusal;
 use sizes::CARD;
 use sizes::FUSES;
+use staging::staging_fits;
 
 fn selector_in_range(active: Active) -> bool
     ensures { λ r. ⌜ r ≡ model.activeBelow 16 (activeOf active) ⌝ }
@@ -66,9 +68,13 @@ pub fn check(card: &[u8], state: State) -> Outcome
         return Outcome::Refused(Refusal::CardLength);
     }
     let fuses = is_fuse_byte(card[FUSES]);
+    let staging = staging_fits(card, 0);
     let range = state_in_range(state);
     if !fuses {
         return Outcome::Refused(Refusal::FuseByte);
+    }
+    if !staging {
+        return Outcome::Refused(Refusal::StagingBytes);
     }
     if !range {
         return Outcome::Refused(Refusal::StateOutOfRange);
@@ -77,11 +83,12 @@ pub fn check(card: &[u8], state: State) -> Outcome
 }
 
 // How much is to be written in answer to a record with these first bytes: nothing where it is ignored.
-fn needed(busy: u8, head: Head) -> usize
-    requires { ⌜ head .kind ≤ 14 ⌝ }
-    ensures { λ r. ⌜ r ≡ cond (ltb 0 busy && not (actsAlways (head .kind))) 0 (fullAnswer at88sc1608 (made (head .kind) 0 (head .n) [])) ⌝ }
+fn needed(halted: bool, busy: u8, head: Head) -> usize
+    requires { ⌜ (1 ≤ head .kind) × (head .kind ≤ 16) ⌝ }
+    ensures { λ r. ⌜ r ≡ cond (cond halted (not (actsAlways (head .kind))) (ltb 0 busy && not (actsBusy (head .kind)))) 0
+        (fullAnswer at88sc1608 (made (head .kind) 0 (head .n) [])) ⌝ }
 {
-    if is_ignored(busy, head.kind) {
+    if is_ignored(halted, busy, head.kind) {
         return 0;
     }
     answer_length(head.kind, head.n) as usize
@@ -101,7 +108,8 @@ pub fn admit(card: &[u8], state: State, record: &[u8], room: usize) -> Decoded
                 return Decoded::Refused(Refusal::BytesLeft);
             }
             let head = head_of(record);
-            if room < needed(state.busy, head) {
+            let halted = is_halted(card, state.off);
+            if room < needed(halted, state.busy, head) {
                 return Decoded::Refused(Refusal::NoSpace);
             }
             Decoded::Whole(kind, end)

@@ -6,6 +6,7 @@ ghost use Rattle.busy.specs.TimedState.{stateOf};
 ghost use Rattle.command.specs.Reply.{calledOf};
 use crate::admit::admit;
 use busy::State;
+use busy::is_halted;
 use busy::is_ignored;
 use carry::carry_out;
 use record::decoder::Decoded;
@@ -15,7 +16,7 @@ use record::refusal::Outcome;
 
 pub mod admit;
 
-// What a call gives back beside the response space. The kind is the record's, or that plus 128 where a busy card ignored it, and 0 with a
+// What a call gives back beside the response space. The kind is the record's, or that plus 128 where the card ignored it, and 0 with a
 // refusal; the tries are those left of the counter that the command used, 0 if it used none.
 pub struct Reply {
     pub outcome: Outcome,
@@ -25,7 +26,7 @@ pub struct Reply {
     pub tries: u8,
 }
 
-// One command on a card. A refusal hands the state back and changes nothing; so does a record that a busy card ignores.
+// One command on a card. A refusal hands the state back and changes nothing; so does a record that the card ignores.
 pub fn command(card: &mut [u8], state: State, record: &[u8], response: &mut [u8]) -> Reply
     ensures { λ r. ⌜ calledOf r (now (card .exit)) (now (response .exit))
         ≡ model.command (now (card .entry)) (stateOf state) (calling (now («record» .entry)) (now (response .entry))) ⌝ }
@@ -41,7 +42,8 @@ pub fn command(card: &mut [u8], state: State, record: &[u8], response: &mut [u8]
         },
         Decoded::Whole(_, end) => {
             let head = head_of(record);
-            if is_ignored(state.busy, head.kind) {
+            let halted = is_halted(card, state.off);
+            if is_ignored(halted, state.busy, head.kind) {
                 return Reply {
                     outcome: Outcome::Accepted,
                     kind: head.kind + 128,
@@ -51,8 +53,7 @@ pub fn command(card: &mut [u8], state: State, record: &[u8], response: &mut [u8]
                 };
             }
             let size = answer_length(head.kind, head.n) as usize;
-            let volatile = state.volatile;
-            let done = carry_out(card, volatile, state.busy, head, record, end, response);
+            let done = carry_out(card, state, head, record, end, response);
             let after = done.state;
             Reply {
                 outcome: Outcome::Accepted,

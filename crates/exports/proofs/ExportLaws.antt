@@ -10,9 +10,9 @@ use Rattle.model.specs.Sizes.{cardSize, fuseAt}
 use Rattle.model.specs.Lists.{at, Bytes}
 use Rattle.model.specs.Call.{Called, calling}
 use Rattle.model.specs.Call as calls
-use Rattle.model.specs.Refusal.{cardLength, fuseByte, stateOutOfRange}
+use Rattle.model.specs.Refusal.{cardLength, fuseByte, stagingBytes, stateOutOfRange}
 use Rattle.model.specs.Session.{Ran, run}
-use Rattle.model.specs.Single.{isFuseByte, checkOf, check, command}
+use Rattle.model.specs.Single.{isFuseByte, stagingFits, checkOf, check, command}
 use Rattle.model.specs.Busy.{State}
 use Rattle.model.specs.Writer.{Parts, writeSession}
 use Rattle.exports.specs.Exports.{result, runCall, toldRun, exportedRun, commandResult, commandCall, toldCommand, exportedCommand, exportedWriting}
@@ -34,18 +34,19 @@ module _ (s space : List ℕ) (x : Ran) (ran : x ≡ run s space) where
 -- bytes that stand for no state are refused
 not-accepted : (c b : List ℕ) → isState b ≡ false → (n : ℕ) × (check c (stateOf b) ≡ suc n)
 unfolding checkOf
-not-accepted c b e = rw (state-range b, e) (go (eqb (length c) cardSize) (isFuseByte (at c fuseAt)))
+not-accepted c b e = rw (state-range b, e) (go (eqb (length c) cardSize) (isFuseByte (at c fuseAt)) (stagingFits c))
   where
-    go : (l f : Bool) → (n : ℕ) × (cond (not l) cardLength (cond (not f) fuseByte stateOutOfRange) ≡ suc n)
-    go true true = (11, refl)
-    go true false = (4, refl)
-    go false f = (10, refl)
+    go : (l f g : Bool) → (n : ℕ) × (cond (not l) cardLength (cond (not f) fuseByte (cond (not g) stagingBytes stateOutOfRange)) ≡ suc n)
+    go true true true = (11, refl)
+    go true true false = (15, refl)
+    go true false g = (4, refl)
+    go false f g = (10, refl)
 
 module _ (c b sent space : List ℕ) (v : State) (read : v ≡ stateOf b) (x : Called State) (called : x ≡ command c v (calling sent space)) where
   same : x ≡ command c (stateOf b) (calling sent space)
   same = called ∙ ap (λ (s : State). command c s (calling sent space)) read
 
-  pub accepted-long : x .reply .refusal ≡ 0 → length b ≡ 5
+  pub accepted-long : x .reply .refusal ≡ 0 → length b ≡ 9
   unfolding calls.admission calls.command
   accepted-long e = state-long b (go (isState b) refl)
     where

@@ -13,24 +13,24 @@ use Rattle.model.specs.Call.{Call, Decoded, refused, whole, calling, refusing}
 use Rattle.model.specs.Call as calls
 use Rattle.laws.specs.CallLaws.{admitted}
 use Rattle.model.specs.Instruction.{Instruction}
-use Rattle.model.specs.Busy.{State, answeredKind}
+use Rattle.model.specs.Busy.{State}
 use Rattle.model.specs.At88sc1608.{at88sc1608}
 use Rattle.model.specs.Record.{decode}
 use Rattle.laws.specs.RecordLaws.{decode-ranged}
 use Rattle.model.specs.Refusal.{stateOutOfRange}
 use Rattle.laws.specs.Sane.{Good, good-check, good-after}
 use Rattle.laws.specs.SingleLaws.{refusal-small}
-use Rattle.model.specs.Single.{isFuseByte, stateInRange, checkOf, check, act, command}
+use Rattle.model.specs.Single.{isFuseByte, stagingFits, stateInRange, checkOf, check, answeredKind, act, command}
 use Rattle.exports.specs.Exports.{exportedCommand}
 use Rattle.exports.specs.Lengths.{response-small, tries-small}
 use Rattle.exports.specs.StateBytes.{isState, stateOf, stateAfter}
 use Rattle.exports.specs.StateLaws.{state-read, state-range}
 
--- 12 at its place: where neither 11 nor 5 applies, and whatever the record and the response space are
-pub unread-refused : (c b : List ℕ) (x : Call) → length c ≡ cardSize → isFuseByte (at c fuseAt) ≡ true → isState b ≡ false
+-- 12 at its place: where none of 11, 5 and 16 applies, and whatever the record and the response space are
+pub unread-refused : (c b : List ℕ) (x : Call) → length c ≡ cardSize → isFuseByte (at c fuseAt) ≡ true → stagingFits c ≡ true → isState b ≡ false
     → command c (stateOf b) x ≡ record { card = c; reply = refusing stateOutOfRange (stateOf b) (x .space) }
 unfolding checkOf calls.admission calls.command
-unread-refused c b x l f e = rw (eq-eqb (length c) cardSize l, f, state-range b, e)
+unread-refused c b x l f g e = rw (eq-eqb (length c) cardSize l, f, g, state-range b, e)
 
 -- the refusal, the response's length, the tries left and the kind that is answered are the first 8 bits of the result, the next 16, the
 -- next 8, and the rest

@@ -14,18 +14,18 @@ use Rattle.model.specs.At88sc1608.{at88sc1608, counterAt, attemptsAt}
 use Rattle.model.specs.Call.{Decoded, refused, whole, Call}
 use Rattle.model.specs.Call as calls
 use Rattle.laws.specs.CallLaws.{admitted}
-use Rattle.model.specs.Command.{Command, powerCycle, reset, select, readZone, writeZone, readConfiguration, writeConfiguration, readFuses, writeFuses}
+use Rattle.model.specs.Command.{Command, reset, select, readZone, writeZone, readConfiguration, writeConfiguration, readFuses, writeFuses}
 use Rattle.model.specs.Command.{verifyPassword, beginAuthentication, verifyAuthentication}
-use Rattle.model.specs.Instruction.{Instruction, issue, wait, poll}
-use Rattle.model.specs.Busy.{State, ignores, answeredKind}
+use Rattle.model.specs.Instruction.{Instruction, powerCycle, issue, wait, poll, writeStaged, arm}
+use Rattle.model.specs.Busy.{State, ignores}
 use Rattle.laws.specs.BusyLaws.{given-answer, given-most, triesUsed}
 use Rattle.laws.specs.Effects.{triesAfter}
 use Rattle.laws.specs.Sane.{good-check}
-use Rattle.model.specs.Log.{Ending, endingOf, zoned, Entry, LaidOut, lengthAt, nextEntry, entryOk, entriesOk, entryPlace, countOf, offsetOf}
+use Rattle.model.specs.Log.{Ending, zoned, Entry, LaidOut, lengthAt, nextEntry, entryOk, entriesOk, entryPlace, countOf, offsetOf}
 use Rattle.model.specs.Log.{trailerOk, validAs, placeOf, find, located}
 use Rattle.model.specs.Record.{decode}
 use Rattle.model.specs.Session.{run}
-use Rattle.model.specs.Single.{check, act, admit, command}
+use Rattle.model.specs.Single.{check, answeredKind, act, admit, command}
 use Rattle.model.specs.Writer.{Parts, writeSession}
 use Rattle.laws.specs.EntryLaws.{header-most}
 use Rattle.laws.specs.WriterLaws.{writable}
@@ -50,12 +50,11 @@ response-small c s x b = go (admit c s x) refl
     go (whole k n) e =
         let a = admitted check decode act c s x k n e in
         let f = fits-small _ _ (decode-logs (x .sent) b k n (a .decodes) .1) in
-        let m = given-most at88sc1608 s k in
+        let m = given-most at88sc1608 c s k in
         rw (given-answer at88sc1608 c s k) (omega arith)
 
 -- the tries are at most eight
 tries-after : (k : Command) (c : List ℕ) → triesAfter at88sc1608 k c ≤ 8
-tries-after powerCycle c = omega arith
 tries-after reset c = omega arith
 tries-after (select z) c = omega arith
 tries-after (readZone a n) c = omega arith
@@ -69,9 +68,12 @@ tries-after beginAuthentication c = at-most-eight (at c attemptsAt)
 tries-after (verifyAuthentication v xs) c = omega arith
 
 tries-used : (i : Instruction) (c : List ℕ) → triesUsed at88sc1608 i c ≤ 8
+tries-used powerCycle c = omega arith
 tries-used (issue k) c = tries-after k c
 tries-used (wait n) c = omega arith
 tries-used poll c = omega arith
+tries-used (writeStaged a xs) c = omega arith
+tries-used (arm k junk) c = omega arith
 
 pub tries-small : (c : List ℕ) (s : State) (x : Call) → command c s x .reply .tries ≤ 8
 unfolding calls.command
@@ -81,7 +83,7 @@ tries-small c s x = go (admit c s x) refl
     go (refused n) e = omega arith
     go (whole k n) e =
         let g = good-check c s (admitted check decode act c s x k n e .checks) in
-        rw (given-out c s k (g .fit .long)) (choice (λ m. m ≤ 8) (ignores s k) 0 _ (omega arith) (tries-used k (act c s k .card)))
+        rw (given-out c s k (g .fit .long)) (choice (λ m. m ≤ 8) (ignores at88sc1608 c s k) 0 _ (omega arith) (tries-used k (act c s k .card)))
 
 -- ---- an answer of a log
 
@@ -100,7 +102,7 @@ pub answer-small : (l : List ℕ) (k from n : ℕ) → find l k ≡ located from
 unfolding validAs
 answer-small l k from n e =
     let a = answered l k from n e in
-    let E : Ending = endingOf l in
+    let E : Ending = zoned in
     let t = trailed E l (and-left (trailerOk E l) _ (a .accepted)) .few in
     let p = place-small E l (offsetOf l) (countOf l) 0 (and-right (trailerOk E l) _ (a .accepted)) k (a .counted) in
     let d = header-most E (at l (placeOf l k)) in

@@ -1,6 +1,6 @@
 -- Laws of tests: what both halves of a conjunction say, and what holds of either choice.
 use Prim.Native.Nat.{ℕ}
-use mathlib.Core.Bool.{Bool, true, false, cond, _&&_, true≢false}
+use mathlib.Core.Bool.{Bool, true, false, cond, _&&_, _||_, true≢false}
 use mathlib.Core.Path.{_≡_, refl, sym}
 
 pub and-left : (a b : Bool) → a && b ≡ true → a ≡ true
@@ -10,6 +10,10 @@ and-left false b e = e
 pub and-right : (a b : Bool) → a && b ≡ true → b ≡ true
 and-right true b e = e
 and-right false b e = absurd (true≢false (sym e))
+
+pub or-left : (a : Bool) → a || false ≡ true → a ≡ true
+or-left true e = refl
+or-left false e = e
 
 pub and-false : (a : Bool) → a && false ≡ false
 and-false true = refl

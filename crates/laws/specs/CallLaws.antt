@@ -59,24 +59,30 @@ module _ {S K : Type 0} (check : List ℕ → S → ℕ) (decode : List ℕ → 
       let r = past-exact (x .sent) _ k n (q .0) in
       record { checks = p .0; decodes = r .0; exactly = r .1; fits = q .1 }
 
-  module _ (kind : S → K → ℕ) where
+  module _ (kind : List ℕ → S → K → ℕ) where
     -- and it is carried out
     pub carried-out : (c : List ℕ) (s : S) (x : Call) (k : K) (n : ℕ) → Admitted c s x k n
         → command check decode act kind c s x ≡ carried check decode act kind c s (x .space) (whole k n)
     unfolding admission command
     carried-out c s x k n a = rw (a .checks, a .decodes, le-ltb n (length (x .sent)) (a .exactly), le-ltb (length (x .space)) _ (a .fits))
 
+    -- what holds of a card and a state, and after every act that is carried out on them, holds after a call
+    pub call-leaves : (P : List ℕ → S → Type 0) (c : List ℕ) (s : S) (x : Call) → P c s
+        → ((k : K) (n : ℕ) → admit check decode act c s x ≡ whole k n → P (act c s k .card) (act c s k .report .state))
+        → P (command check decode act kind c s x .card) (command check decode act kind c s x .reply .state)
+    unfolding command
+    call-leaves P c s x p h = go (admit check decode act c s x) refl
+      where
+        go : (d : Decoded K) → admit check decode act c s x ≡ d
+            → P (carried check decode act kind c s (x .space) d .card) (carried check decode act kind c s (x .space) d .reply .state)
+        go (refused n) e = p
+        go (whole k n) e = h k n e
+
     module _ (P : List ℕ → S → Type 0)
         (keeps : (c : List ℕ) (s : S) (k : K) (part : List ℕ) (n : ℕ) → decode part ≡ whole k n → P c s → P (act c s k .card) (act c s k .report .state)) where
       pub call-keeps : (c : List ℕ) (s : S) (x : Call) → P c s
           → P (command check decode act kind c s x .card) (command check decode act kind c s x .reply .state)
-      unfolding command
-      call-keeps c s x p = go (admit check decode act c s x) refl
-        where
-          go : (d : Decoded K) → admit check decode act c s x ≡ d
-              → P (carried check decode act kind c s (x .space) d .card) (carried check decode act kind c s (x .space) d .reply .state)
-          go (refused n) e = p
-          go (whole k n) e = keeps c s k (x .sent) n (admitted c s x k n e .decodes) p
+      call-keeps c s x p = call-leaves P c s x p (λ k n e. keeps c s k (x .sent) n (admitted c s x k n e .decodes) p)
 
       pub list-keeps : (xs : List Call) (m : Powered S) → P (m .card) (m .state)
           → P (final check decode act kind xs m .card) (final check decode act kind xs m .state)

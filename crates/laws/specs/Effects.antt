@@ -1,4 +1,4 @@
--- What a command can do, for any device, told once over all twelve kinds: which bytes of the card it may change and why, how the
+-- What a command can do, for any device, told once over all eleven kinds: which bytes of the card it may change and why, how the
 -- volatile state may move, how long the answer is, and what it hands out of a counter.
 use Prim.Native.Nat.{ℕ, suc, _<_}
 use mathlib.Core.Bool.{Bool, true, false, cond}
@@ -10,15 +10,14 @@ use lib.ListN.{length, set}
 use lib.Seq.{getD-set-same}
 use Rattle.model.specs.Lists.{at, sameList, stores}
 use Rattle.laws.specs.ListLaws.{length-tab}
-use Rattle.model.specs.Volatile.{Volatile, none, selector, idle, begun, granted, powerUp, isBegun, selecting, activating, authenticating}
-use Rattle.model.specs.Command.{Command, powerCycle, reset, select, readZone, writeZone, readConfiguration, writeConfiguration, readFuses, writeFuses}
+use Rattle.model.specs.Volatile.{Volatile, none, selector, idle, begun, granted, isBegun, selecting, activating, authenticating}
+use Rattle.model.specs.Command.{Command, reset, select, readZone, writeZone, readConfiguration, writeConfiguration, readFuses, writeFuses}
 use Rattle.model.specs.Command.{verifyPassword, beginAuthentication, verifyAuthentication}
 use Rattle.model.specs.Device.{Device, Counter, ofPassword, ofAuthentication, counterPlace}
 use Rattle.model.specs.Apply.{fullCounter, attemptOf, judgementOf, rules, kept, password, presented, started, judged, apply}
 
 -- the bytes that a command carries
 abbrev pub carried : Command → List ℕ
-carried powerCycle = []
 carried reset = []
 carried (select z) = []
 carried (readZone a n) = []
@@ -33,7 +32,6 @@ carried (verifyAuthentication v xs) = xs
 
 -- how long a command's answer is
 abbrev pub answerLength : Device → Command → ℕ
-answerLength D powerCycle = 0
 answerLength D reset = D .resetCount
 answerLength D (select z) = 0
 answerLength D (readZone a n) = n
@@ -48,7 +46,6 @@ answerLength D (verifyAuthentication v xs) = 0
 
 -- the tries left, on a card, of the counter that a command uses: kinds 10 and 11 use one; for every other kind 0
 abbrev pub triesAfter : Device → Command → List ℕ → ℕ
-triesAfter D powerCycle c = 0
 triesAfter D reset c = 0
 triesAfter D (select z) c = 0
 triesAfter D (readZone a n) c = 0
@@ -74,7 +71,6 @@ pub data Change (D : Device) (ρ : List ℕ) (s : Volatile) (xs : List ℕ) (d :
 -- verdict 1 where it was begun.
 pub data Move (D : Device) (c : List ℕ) (s : Volatile) : Command → Volatile → Type 0 where
   stays : {k : Command} → Move D c s k s
-  powers : Move D c s powerCycle powerUp
   resets : Move D c s reset (authenticating (activating s none) idle)
   selects : {z : ℕ} → Move D c s (select z) (selecting s z)
   opens : {j : ℕ} {xs : List ℕ} → sameList xs (password D c j) ≡ true → Move D c s (verifyPassword j xs) (activating s (selector j))
@@ -95,7 +91,6 @@ stores-keep Inv rule cell (x ∷ xs) h k d p =
 module _ (D : Device) where
   pub answer-length : (c : List ℕ) (s : Volatile) (k : Command) → length (apply D c s k .report .answer) ≡ answerLength D k
   unfolding apply
-  answer-length c s powerCycle = refl
   answer-length c s reset = length-tab _ _
   answer-length c s (select z) = refl
   answer-length c s (readZone a n) = length-tab _ n
@@ -119,7 +114,6 @@ module _ (D : Device) where
   pub hands-out : D .tries 0 ≡ 0 → (c : List ℕ) (s : Volatile) (k : Command) → ((n : Counter) → counterPlace D n < length c)
       → apply D c s k .report .tries ≡ triesAfter D k (apply D c s k .card)
   unfolding apply
-  hands-out z c s powerCycle h = refl
   hands-out z c s reset h = refl
   hands-out z c s (select n) h = refl
   hands-out z c s (readZone a n) h = refl
@@ -147,7 +141,6 @@ module _ (D : Device) where
     pub changes : (k : Command) → ((d : List ℕ) (i v : ℕ) → Inv d → Change D (rules D c) s (carried k) d i v → Inv (set d i v))
         → Inv c → Inv (apply D c s k .card)
     unfolding apply
-    changes powerCycle h p = p
     changes reset h p = p
     changes (select z) h p = p
     changes (readZone a n) h p = p
@@ -180,7 +173,6 @@ module _ (D : Device) where
 
   pub moves : (c : List ℕ) (s : Volatile) (k : Command) → Move D c s k (apply D c s k .report .state)
   unfolding apply
-  moves c s powerCycle = powers
   moves c s reset = resets
   moves c s (select z) = selects
   moves c s (readZone a n) = stays

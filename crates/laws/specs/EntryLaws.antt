@@ -5,13 +5,15 @@ use mathlib.Core.Bool.{Bool, true, false, cond, true≢false}
 use mathlib.Core.List.{List}
 use mathlib.Core.Path.{_≡_, refl, sym, ap}
 use native.Mathlib.Omega.{arith}
-use Rattle.model.specs.Command.{powerCycle, reset, select, readZone, writeZone, readConfiguration, writeConfiguration, readFuses, writeFuses}
+use Rattle.model.specs.Command.{reset, select, readZone, writeZone, readConfiguration, writeConfiguration, readFuses, writeFuses}
 use Rattle.model.specs.Command.{verifyPassword, beginAuthentication, verifyAuthentication}
-use Rattle.model.specs.Instruction.{Instruction, issue, wait, poll, kindOf}
+use Rattle.model.specs.Instruction.{Instruction, powerCycle, issue, wait, poll, writeStaged, arm, kindOf}
 use Rattle.model.specs.Device.{Device}
 use Rattle.model.specs.Apply.{apply}
-use Rattle.model.specs.Busy.{State, ignores, answeredKind, perform, act}
+use Rattle.model.specs.Busy.{State, perform, act}
+use Rattle.model.specs.Busy as any
 use Rattle.model.specs.At88sc1608.{at88sc1608}
+use Rattle.model.specs.Single.{answeredKind}
 use Rattle.model.specs.Log.{Ending, zoned, namesZone, headerLength}
 use Rattle.laws.specs.BoolLaws.{choice}
 use Rattle.laws.specs.BusyLaws.{fullAnswer, either-way}
@@ -42,7 +44,7 @@ abbrev pub fullEntry : Instruction → ℕ
 fullEntry k = headerLength zoned (kindOf k) + fullAnswer at88sc1608 k
 
 ignored-names : (k : Instruction) → namesZone (kindOf k + 128) ≡ namesZone (kindOf k)
-ignored-names (issue powerCycle) = refl
+ignored-names powerCycle = refl
 ignored-names (issue reset) = refl
 ignored-names (issue (select z)) = refl
 ignored-names (issue (readZone a n)) = refl
@@ -56,23 +58,25 @@ ignored-names (issue beginAuthentication) = refl
 ignored-names (issue (verifyAuthentication v xs)) = refl
 ignored-names (wait n) = refl
 ignored-names poll = refl
+ignored-names (writeStaged a xs) = refl
+ignored-names (arm k junk) = refl
 
-pub answered-names : (s : State) (k : Instruction) → namesZone (answeredKind s k) ≡ namesZone (kindOf k)
-answered-names s k = go (ignores s k)
+pub answered-names : (c : List ℕ) (s : State) (k : Instruction) → namesZone (answeredKind c s k) ≡ namesZone (kindOf k)
+answered-names c s k = go (any.ignores at88sc1608 c s k)
   where
     go : (t : Bool) → namesZone (cond t (kindOf k + 128) (kindOf k)) ≡ namesZone (kindOf k)
     go true = ignored-names k
     go false = refl
 
-pub answered-header : (s : State) (k : Instruction) → headerLength zoned (answeredKind s k) ≡ headerLength zoned (kindOf k)
+pub answered-header : (c : List ℕ) (s : State) (k : Instruction) → headerLength zoned (answeredKind c s k) ≡ headerLength zoned (kindOf k)
 unfolding headerLength
-answered-header s k = ap (λ (t : Bool). cond t 4 3) (answered-names s k)
+answered-header c s k = ap (λ (t : Bool). cond t 4 3) (answered-names c s k)
 
 -- a record that names the zone leaves it selected, ignored or not
 pub named-keeps : (D : Device) (c : List ℕ) (s : State) (k : Instruction) → namesZone (kindOf k) ≡ true
     → act D c s k .report .state .volatile .zone ≡ s .volatile .zone
 unfolding perform apply
-named-keeps D c s (issue powerCycle) e = absurd (true≢false (sym e))
+named-keeps D c s powerCycle e = absurd (true≢false (sym e))
 named-keeps D c s (issue reset) e = absurd (true≢false (sym e))
 named-keeps D c s (issue (select z)) e = absurd (true≢false (sym e))
 named-keeps D c s (issue (readZone a n)) e =
@@ -88,3 +92,5 @@ named-keeps D c s (issue beginAuthentication) e = absurd (true≢false (sym e))
 named-keeps D c s (issue (verifyAuthentication v xs)) e = absurd (true≢false (sym e))
 named-keeps D c s (wait n) e = absurd (true≢false (sym e))
 named-keeps D c s poll e = absurd (true≢false (sym e))
+named-keeps D c s (writeStaged a xs) e = absurd (true≢false (sym e))
+named-keeps D c s (arm k junk) e = absurd (true≢false (sym e))

@@ -16,6 +16,8 @@ pub mod AccessLaws
 pub mod ReadLaws
 pub mod WordLaws
 pub mod Effects
+pub mod CellLaws
+pub mod StagingLaws
 pub mod BusyLaws
 pub mod EntryLaws
 pub mod Sane

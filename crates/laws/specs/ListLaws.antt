@@ -9,7 +9,7 @@ use native.Mathlib.Omega.{arith}
 use borrow.Author.Tests.{ltb-true, ltb-false, eqb-true, eqb-false, eq-eqb}
 use lib.Dec.{ltb, eqb}
 use lib.ListN.{length, take, drop, set, length-append, length-drop, List·getD-append, List·getD-eq-default}
-use lib.Seq.{getD-set-same, getD-set-other, set-out, getD-at, getD-drop, take-suc, take-nil}
+use lib.Seq.{ext-getD, getD-set-same, getD-set-other, set-out, getD-at, getD-drop, take-suc, take-nil}
 use Rattle.model.specs.Lists.{at, tab, sameList, Bytes}
 use Rattle.laws.specs.BoolLaws.{choice, and-left, and-right}
 
@@ -38,6 +38,12 @@ at-tab f (suc n) i h = go (at-tab f n i) (eqb i n) refl
         let ne : i ≡ n → ⊥ = eqb-false i n e in
         let l : i < n = omega arith in
         List·getD-append (tab f n) (f n ∷ []) 0 i (rw (length-tab f n) l) ∙ ih l
+
+-- a list is the table of its elements
+pub tab-list : (l : List ℕ) → tab (at l) (length l) ≡ l
+tab-list l =
+    ext-getD 0 (tab (at l) (length l)) l (length-tab (at l) (length l)) (λ i h. at-tab (at l) (length l) i (let n = length-tab (at l) (length l) in omega
+    arith))
 
 pub tab-bytes : (f : ℕ → ℕ) (n : ℕ) → ((i : ℕ) → f i < 256) → Bytes (tab f n)
 tab-bytes f n b i = go (ltb i n) refl

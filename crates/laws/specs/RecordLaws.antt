@@ -14,9 +14,9 @@ use Rattle.laws.specs.BoolLaws.{and-left, and-right}
 use Rattle.laws.specs.KindLaws.{each-kind, each-row}
 use Rattle.model.specs.Call.{whole}
 use Rattle.laws.specs.CallLaws.{past}
-use Rattle.model.specs.Command.{Command, powerCycle, reset, select, readZone, writeZone, readConfiguration, writeConfiguration, readFuses, writeFuses}
+use Rattle.model.specs.Command.{Command, reset, select, readZone, writeZone, readConfiguration, writeConfiguration, readFuses, writeFuses}
 use Rattle.model.specs.Command.{verifyPassword, beginAuthentication, verifyAuthentication}
-use Rattle.model.specs.Instruction.{Instruction, issue, wait, poll, kindOf}
+use Rattle.model.specs.Instruction.{Instruction, powerCycle, issue, wait, poll, writeStaged, arm, kindOf}
 use Rattle.model.specs.Record.{Kind, kinds, known, fixedFields, inRange, dataLength, made, dataAt, recordLength, decode}
 
 -- the data of a record
@@ -58,7 +58,6 @@ length-data part k n a =
 
 -- the fields of a command in the ranges that the decoder tests
 abbrev pub Fields : Command → Type 0
-Fields powerCycle = Unit {0}
 Fields reset = Unit {0}
 Fields (select z) = z < 8
 Fields (readZone a n) = 1 ≤ n
@@ -73,9 +72,12 @@ Fields (verifyAuthentication v xs) = length xs ≡ 8
 
 -- and those of an instruction
 abbrev pub Ranged : Instruction → Type 0
+Ranged powerCycle = Unit {0}
 Ranged (issue k) = Fields k
 Ranged (wait n) = (1 ≤ n) × (n ≤ 255)
 Ranged poll = Unit {0}
+Ranged (writeStaged a xs) = (1 ≤ length xs) × (length xs ≤ 8)
+Ranged (arm k junk) = Unit {0}
 
 module _ (a n : ℕ) (xs : List ℕ) where
   read-count : (t : Bool) → eqb n 0 ≡ t → 1 ≤ cond t 256 n
@@ -109,6 +111,8 @@ module _ (a n : ℕ) (xs : List ℕ) where
       (λ r l. l)
       (λ r l. omega (arith, leb-true 1 a (and-left (leb 1 a) _ r), leb-true a 255 (and-right (leb 1 a) _ r)))
       (λ r l. tt)
+      (λ r l. omega (arith, leb-true 1 n (and-left (leb 1 n) _ r), leb-true n 8 (and-right (leb 1 n) _ r)))
+      (λ r l. tt)
 
 pub decode-ranged : (part : List ℕ) (k : Instruction) (n : ℕ) → decode part ≡ whole k n → Ranged k
 decode-ranged part k n e =
@@ -120,7 +124,7 @@ made-kind : (a n : ℕ) (xs : List ℕ) (kind : ℕ) → known kind ≡ true →
 unfolding kinds made
 made-kind a n xs =
     each-kind (λ kind. kindOf (made kind a n xs) ≡ kind)
-    refl refl refl refl refl refl refl refl refl refl refl refl refl refl
+    refl refl refl refl refl refl refl refl refl refl refl refl refl refl refl refl
 
 pub decode-kind : (part : List ℕ) (k : Instruction) (n : ℕ) → decode part ≡ whole k n → kindOf k ≡ at part 0
 decode-kind part k n e =
@@ -168,6 +172,8 @@ module _ (a n a′ n′ : ℕ) where
       (λ p q. rw (p (omega arith)) (record { range = refl; size = refl; command = λ xs. refl }))
       (λ p q. rw (p (omega arith)) (record { range = refl; size = refl; command = λ xs. refl }))
       (λ p q. record { range = refl; size = refl; command = λ xs. refl })
+      (λ p q. rw (p (omega arith), q (omega arith)) (record { range = refl; size = refl; command = λ xs. refl }))
+      (λ p q. rw (p (omega arith), q (omega arith)) (record { range = refl; size = refl; command = λ xs. refl }))
 
 front-part : (i n : ℕ) (l : List ℕ) → i + n ≤ length l → take n (drop i (take (i + n) l)) ≡ take n (drop i l)
 front-part i n l h =
@@ -224,13 +230,13 @@ pub fixed-small : (kind : ℕ) → fixedFields kind ≤ 2
 unfolding kinds fixedFields
 fixed-small =
     each-row (λ (r : Kind). r .fixed ≤ 2)
-    (omega arith) (omega arith) (omega arith) (omega arith) (omega arith) (omega arith) (omega arith)
-    (omega arith) (omega arith) (omega arith) (omega arith) (omega arith) (omega arith) (omega arith)
+    (omega arith) (omega arith) (omega arith) (omega arith) (omega arith) (omega arith) (omega arith) (omega arith)
+    (omega arith) (omega arith) (omega arith) (omega arith) (omega arith) (omega arith) (omega arith) (omega arith)
 
 pub data-small : (kind n : ℕ) → n < 256 → dataLength kind n < 256
 unfolding kinds dataLength
 data-small kind n h =
     each-row (λ (r : Kind). r .follow n < 256)
     (omega arith) (omega arith) (omega arith) (omega arith) h (omega arith)
-    h (omega arith) (omega arith) (omega arith) (omega arith) (omega arith) (omega arith) (omega arith)
+    h (omega arith) (omega arith) (omega arith) (omega arith) (omega arith) (omega arith) (omega arith) h (omega arith)
     kind

@@ -1,4 +1,4 @@
--- The numbers that a single command is refused with: none is above 12.
+-- The numbers that a single command is refused with: none is above 16.
 use Prim.Native.Nat.{ℕ, zero, suc, _≤_}
 use mathlib.Core.Bool.{Bool, true, false, cond, not}
 use mathlib.Core.List.{List}
@@ -9,16 +9,16 @@ use Rattle.model.specs.Sizes.{cardSize, fuseAt}
 use Rattle.model.specs.Lists.{at}
 use Rattle.laws.specs.BoolLaws.{choice}
 use Rattle.model.specs.Instruction.{Instruction}
-use Rattle.model.specs.Busy.{State, answeredKind}
+use Rattle.model.specs.Busy.{State}
 use Rattle.model.specs.At88sc1608.{at88sc1608}
 use Rattle.model.specs.Call.{Decoded, refused, whole, Call, checked, exact}
 use Rattle.model.specs.Call as calls
 use Rattle.model.specs.Record.{known, inRange, dataAt, recordLength, decode}
-use Rattle.model.specs.Single.{isFuseByte, stateInRange, checkOf, check, act, admit, command}
+use Rattle.model.specs.Single.{isFuseByte, stateInRange, checkOf, check, stagingFits, answeredKind, act, admit, command}
 
--- a refusal up to 12, or no refusal
+-- a refusal up to 16, or no refusal
 abbrev Small : Decoded Instruction → Type 0
-Small (refused n) = n ≤ 12
+Small (refused n) = n ≤ 16
 Small (whole k n) = Unit {0}
 
 either : (t : Bool) (d e : Decoded Instruction) → Small d → Small e → Small (cond t d e)
@@ -41,18 +41,19 @@ fitting-small : (c : List ℕ) (s : State) (room : ℕ) (d : Decoded Instruction
 fitting-small c s room (refused n) p = p
 fitting-small c s room (whole k n) p = either (ltb room (length (act c s k .report .answer))) (refused 10) (whole k n) (omega arith) tt
 
-checked-small : (r : ℕ) (d : Decoded Instruction) → r ≤ 12 → Small d → Small (checked r d)
+checked-small : (r : ℕ) (d : Decoded Instruction) → r ≤ 16 → Small d → Small (checked r d)
 checked-small zero d l p = p
 checked-small (suc r) d l p = l
 
-check-small : (c : List ℕ) (s : State) → check c s ≤ 12
+check-small : (c : List ℕ) (s : State) → check c s ≤ 16
 unfolding checkOf
 check-small c s =
     choice P (not (eqb (length c) cardSize)) 11 _ (omega arith)
-    (choice P (not (isFuseByte (at c fuseAt))) 5 _ (omega arith) (choice P (not (stateInRange at88sc1608 s)) 12 0 (omega arith) (omega arith)))
+    (choice P (not (isFuseByte (at c fuseAt))) 5 _ (omega arith)
+    (choice P (not (stagingFits c)) 16 _ (omega arith) (choice P (not (stateInRange at88sc1608 s)) 12 0 (omega arith) (omega arith))))
   where
     P : ℕ → Type 0
-    P n = n ≤ 12
+    P n = n ≤ 16
 
 admit-small : (c : List ℕ) (s : State) (x : Call) → Small (admit c s x)
 unfolding calls.admission
@@ -60,10 +61,10 @@ admit-small c s x =
     checked-small (check c s) _ (check-small c s)
     (fitting-small c s (length (x .space)) (exact (x .sent) (decode (x .sent))) (exact-small (x .sent) (decode (x .sent)) (decode-small (x .sent))))
 
-pub refusal-small : (c : List ℕ) (s : State) (x : Call) → command c s x .reply .refusal ≤ 12
+pub refusal-small : (c : List ℕ) (s : State) (x : Call) → command c s x .reply .refusal ≤ 16
 unfolding calls.command
 refusal-small c s x = go (admit c s x) (admit-small c s x)
   where
-    go : (d : Decoded Instruction) → Small d → calls.carried check decode act answeredKind c s (x .space) d .reply .refusal ≤ 12
+    go : (d : Decoded Instruction) → Small d → calls.carried check decode act answeredKind c s (x .space) d .reply .refusal ≤ 16
     go (refused n) p = p
     go (whole k n) p = omega arith

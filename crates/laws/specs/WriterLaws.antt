@@ -11,7 +11,7 @@ use Rattle.model.specs.Sizes.{cardSize, fuseAt, trailerSize, greatestSession, m
 use Rattle.model.specs.Lists.{at}
 use Rattle.model.specs.Refusal.{noSpace}
 use Rattle.model.specs.Session.{Ran, rejected}
-use Rattle.model.specs.Single.{isFuseByte}
+use Rattle.model.specs.Single.{isFuseByte, stagingFits}
 use Rattle.model.specs.Writer.{Parts, trailerBytes, sessionBytes, recordsRefusal, partsRefusal, placed, writeSession}
 use Rattle.laws.specs.CallLaws.{clear}
 
@@ -29,6 +29,7 @@ pub record Writable (p : Parts) : Type 0 where
   pub short : length (sessionBytes p) ≤ greatestSession
   pub few : p .count ≤ mostRecords
   pub stage : isFuseByte (at (p .card) fuseAt) ≡ true
+  pub staging : stagingFits (p .card) ≡ true
   pub brief : length (p .title) ≤ mostTitle
   pub well : recordsRefusal (p .count) (p .records) ≡ 0
 
@@ -39,14 +40,16 @@ writable p e =
     let p₂ = clear (ltb greatestSession (length (sessionBytes p))) 0 _ (p₁ .1) in
     let p₃ = clear (ltb mostRecords (p .count)) 3 _ (p₂ .1) in
     let p₄ = clear (not (isFuseByte (at (p .card) fuseAt))) 4 _ (p₃ .1) in
-    let p₅ = clear (ltb mostTitle (length (p .title))) 14 _ (p₄ .1) in
+    let p₅ = clear (not (stagingFits (p .card))) 15 _ (p₄ .1) in
+    let p₆ = clear (ltb mostTitle (length (p .title))) 14 _ (p₅ .1) in
     record {
       long = eqb-true _ _ (not-false _ (p₁ .0));
       short = ltb-false _ _ (p₂ .0);
       few = ltb-false _ _ (p₃ .0);
       stage = not-false _ (p₄ .0);
-      brief = ltb-false _ _ (p₅ .0);
-      well = p₅ .1;
+      staging = not-false _ (p₅ .0);
+      brief = ltb-false _ _ (p₆ .0);
+      well = p₆ .1;
     }
 
 -- what is given back lies within the space

@@ -44,8 +44,8 @@ records-small (suc n) s i =
 pub refusal-small : (s log : List ℕ) → run s log .refusal < 10000
 refusal-small s log = rw (refusal-is s log) (first-small (sessionConditions s log) all)
   where
-    five : Small (frameConditions s)
-    five = (omega arith, (omega arith, (omega arith, (omega arith, (omega arith, tt)))))
+    frame : Small (frameConditions s)
+    frame = (omega arith, (omega arith, (omega arith, (omega arith, (omega arith, (omega arith, tt))))))
 
     rest : Small (recordsConditions (countOf s) s (startOf s) ++ lastConditions s log)
     rest =
@@ -53,7 +53,7 @@ refusal-small s log = rw (refusal-is s log) (first-small (sessionConditions s lo
         (records-small (countOf s) s (startOf s)) (omega arith, (omega arith, tt))
 
     all : Small (sessionConditions s log)
-    all = small-append (frameConditions s) (recordsConditions (countOf s) s (startOf s) ++ lastConditions s log) five rest
+    all = small-append (frameConditions s) (recordsConditions (countOf s) s (startOf s) ++ lastConditions s log) frame rest
 
 -- ---- the listing
 

@@ -48,7 +48,7 @@ fn put_entries(text: &mut [u8], log: &[u8], count: usize, end: usize) -> usize
     let mut i = 0;
     while i < count {
         let kind = log[at];
-        let from = at + header_length(true, kind);
+        let from = at + header_length(kind);
         let next = from + get2(log, at + 1);
         to = put_line(text, to, i, kind, &log[from..next]);
         at = next;

@@ -8,21 +8,22 @@ ghost use lib.Dec.{leb};
 ghost use Rattle.log.specs.Scan.{entryEnd, Scanned};
 use header::names_zone;
 use record::kind::both;
+use record::kind::is_known;
 use record::kind::length_fits;
 use record::number::get2;
 
-// Whether a kind byte is that of an ignored record: kinds 2 to 12, plus 128.
+// Whether a kind byte is that of an ignored record: kinds 2 to 15, plus 128.
 fn is_ignored_kind(kind: u8) -> bool
     ensures { λ r. ⌜ r ≡ model.ignoredKind kind ⌝ }
 {
-    both(130 <= kind, kind <= 140)
+    both(130 <= kind, kind <= 143)
 }
 
 // Whether an entry can have this kind byte and a response that long.
 fn entry_fits(kind: u8, response: usize) -> bool
     ensures { λ r. ⌜ r ≡ model.entryFits kind response ⌝ }
 {
-    if kind <= 14 {
+    if is_known(kind) {
         return length_fits(kind, response);
     }
     both(is_ignored_kind(kind), response == 0)
@@ -39,16 +40,16 @@ fn ended(place: usize, end: usize) -> usize
 }
 
 // Where the entry at a place ends, which is to be by end; 0 where none stands there.
-fn entry_end(log: &[u8], zoned: bool, at: usize, end: usize) -> usize
+fn entry_end(log: &[u8], at: usize, end: usize) -> usize
     requires { ⌜ (at ≤ end) × (end + 8 ≤ length (now log)) ⌝ }
-    ensures { λ r. ⌜ r ≡ entryEnd (model.ending zoned) (now (log .entry)) at end ⌝ }
+    ensures { λ r. ⌜ r ≡ entryEnd (now (log .entry)) at end ⌝ }
 {
     let kind = log[at];
     let response = get2(log, at + 1);
     if !entry_fits(kind, response) {
         return 0;
     }
-    if names_zone(zoned, kind) {
+    if names_zone(kind) {
         if 7 < log[at + 3] {
             return 0;
         }
@@ -74,15 +75,15 @@ fn kept(here: bool, at: usize, place: usize) -> usize
 }
 
 // helper: one pass over count entries from the front up to end, which keeps the place of the entry with a number.
-pub fn scan(log: &[u8], zoned: bool, count: usize, end: usize, number: usize) -> Entries
+pub fn scan(log: &[u8], count: usize, end: usize, number: usize) -> Entries
     requires { ⌜ end + 8 ≤ length (now log) ⌝ }
-    ensures { λ r. ⌜ Scanned (model.ending zoned) (now (log .entry)) count end number (r .ok) (r .place) ⌝ }
+    ensures { λ r. ⌜ Scanned (now (log .entry)) count end number (r .ok) (r .place) ⌝ }
 {
     let mut at = 0;
     let mut place = 0;
     let mut i = 0;
     while i < count {
-        let next = entry_end(log, zoned, at, end);
+        let next = entry_end(log, at, end);
         if next == 0 {
             return Entries { ok: false, place };
         }

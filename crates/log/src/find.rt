@@ -5,7 +5,6 @@ ghost use lib.ListN.{length, take, drop};
 ghost use Rattle.model.specs.Log as model;
 ghost use Rattle.log.specs.Found.{foundOf, Within};
 use crate::check::scan;
-use access::rights::either;
 use access::rights::is_fuse_byte;
 use header::header_length;
 use record::number::get2;
@@ -15,6 +14,7 @@ use sizes::FUSES;
 use sizes::LEAST_LOG;
 use sizes::MOST_RECORDS;
 use sizes::TRAILER;
+use staging::staging_fits;
 
 // A refusal, or where an answer begins and how long it is.
 pub enum Found {
@@ -22,9 +22,9 @@ pub enum Found {
     At(usize, usize),
 }
 
-// Whether the trailer and the card before it are those of a log with one of the two endings.
+// Whether the trailer and the card before it are those of a log.
 fn trailer_ok(log: &[u8]) -> bool
-    ensures { λ r. ⌜ r ≡ model.trailerOk (model.endingOf (now (log .entry))) (now (log .entry)) ⌝ }
+    ensures { λ r. ⌜ r ≡ model.trailerOk model.zoned (now (log .entry)) ⌝ }
 {
     let length = log.len();
     if length < LEAST_LOG {
@@ -33,8 +33,7 @@ fn trailer_ok(log: &[u8]) -> bool
     if log[length - 2] != 76 {
         return false;
     }
-    let last = log[length - 1];
-    if !either(last == 80, last == 79) {
+    if log[length - 1] != 80 {
         return false;
     }
     if MOST_RECORDS < get2(log, length - 4) {
@@ -44,18 +43,18 @@ fn trailer_ok(log: &[u8]) -> bool
     if offset + LEAST_LOG != length {
         return false;
     }
-    is_fuse_byte(log[offset + FUSES])
+    if !is_fuse_byte(log[offset + FUSES]) {
+        return false;
+    }
+    staging_fits(log, offset)
 }
 
 // helper: where the response of the entry at a place lies.
-fn response_at(log: &[u8], zoned: bool, place: usize) -> Found
+fn response_at(log: &[u8], place: usize) -> Found
     requires { ⌜ place + 4 ≤ length (now log) ⌝ }
-    ensures { λ r. ⌜ foundOf r ≡ model.located (model.responseAt (model.ending zoned) (now (log .entry)) place) (model.lengthAt (now (log .entry)) place) ⌝ }
+    ensures { λ r. ⌜ foundOf r ≡ model.located (model.responseAt model.zoned (now (log .entry)) place) (model.lengthAt (now (log .entry)) place) ⌝ }
 {
-    Found::At(
-        place + header_length(zoned, log[place]),
-        get2(log, place + 1),
-    )
+    Found::At(place + header_length(log[place]), get2(log, place + 1))
 }
 
 // Where answer number lies, from 0. The whole log is checked for every number.
@@ -68,15 +67,14 @@ pub fn find(log: &[u8], number: usize) -> Found
     let length = log.len();
     let count = get2(log, length - 4);
     let end = get4(log, length - TRAILER);
-    let zoned = log[length - 1] == 80;
-    let scanned = scan(log, zoned, count, end, number);
+    let scanned = scan(log, count, end, number);
     if !scanned.ok {
         return Found::Refused(Refusal::NotALog);
     }
     if count <= number {
         return Found::Refused(Refusal::NoSuchAnswer);
     }
-    response_at(log, zoned, scanned.place)
+    response_at(log, scanned.place)
 }
 
 // The part of a log between two places.

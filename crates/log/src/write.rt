@@ -15,7 +15,7 @@ pub fn put_header(log: &mut [u8], at: usize, kind: u8, response: usize, zone: u8
 {
     log[at] = kind;
     put2(log, at + 1, response);
-    if names_zone(true, kind) {
+    if names_zone(kind) {
         log[at + 3] = zone;
         return at + 4;
     }

@@ -6,6 +6,7 @@ use mathlib.Core.Path.{_≡_, refl, sym, ap, _∙_}
 use native.Mathlib.Omega.{arith}
 use borrow.Author.Tests.{not-true, not-false}
 use lib.ListN.{length, take, drop}
+use lib.Seq.{getD-take, getD-drop}
 use Rattle.model.specs.Sizes.{cardSize, fuseAt}
 use Rattle.model.specs.Lists.{at, tab, stores}
 use Rattle.laws.specs.ListLaws.{tab-cong}
@@ -15,6 +16,7 @@ use Rattle.model.specs.Access.{zoneReadable, zoneWritable}
 use Rattle.laws.specs.AccessLaws.{fuse-rule, zone-register, zone-written, zone-merged}
 use Rattle.laws.specs.ReadLaws.{zone-answer}
 use Rattle.model.specs.At88sc1608.{at88sc1608, zoneByte, zoneCell, registerOf, registerAt, registersAt}
+use Rattle.model.specs.Staging.{mayStage, finalValues}
 use Rattle.model.specs.Apply.{rules, kept}
 use Rattle.model.specs.Apply as any
 use Rattle.laws.specs.Loops.{stores-cong, stores-kept, stores-part}
@@ -67,3 +69,27 @@ module _ (c : List ℕ) (s : Volatile) (a : ℕ) (zone : s .zone < 8) where
       ap (λ (zs : List ℕ). take base c ++ (zs ++ drop w (drop base c))) y
       ∙ stores-part (λ i. mergedOf merges) (λ i. mergedOf merges) (λ k. (a % 16 + k) % 16) base w (λ k. omega arith) (λ k old new. refl) xs 0 c (omega arith)
       ∙ sym (stores-cong _ _ _ _ (λ k. omega arith) (λ k old new. zone-kept k old new ∙ rw (← e, not-false writable t, ← m)) xs 0 c)
+
+  -- the right of a staged write, and the values that it stages
+  pub stage-right : (writable : Bool) → writable ≡ zoneWritable (at c fuseAt) (at c (registersAt + s .zone)) s → (a : ℕ)
+      → writable ≡ mayStage at88sc1608 c s a
+  stage-right writable e a =
+      let i : ℕ = zoneCell (s .zone) a 0 in
+      let q : registerOf (rules at88sc1608 c) (i / 256) ≡ at c (registersAt + s .zone) = zone-register c (s .zone) i (omega arith) ∙ rw register-place in
+      e ∙ sym (zone-written (rules at88sc1608 c) s i (omega arith) ∙ rw (fuse-rule c, q))
+
+  pub stage-values : (xs ys d : List ℕ) (merges : Bool) (base : ℕ) → merges ≡ mergesOf (at c fuseAt) (at c (registersAt + s .zone))
+      → base ≡ s .zone * 256 + a / 16 * 16 → a < 256 → length c ≡ cardSize
+      → ys ≡ tab (λ k. mergedOf merges (at (take (base + 16 - base) (drop base c)) ((a % 16 + k) % 16)) (at xs k)) (length xs) ++ drop (length xs) d
+      → ys ≡ finalValues at88sc1608 c (s .zone) a xs ++ drop (length xs) d
+  stage-values xs ys d merges base m b l n y = y ∙ ap (λ (vs : List ℕ). vs ++ drop (length xs) d) (tab-cong _ _ (length xs) (λ k h. value k))
+    where
+      value : (k : ℕ) → mergedOf merges (at (take (base + 16 - base) (drop base c)) ((a % 16 + k) % 16)) (at xs k)
+          ≡ at88sc1608 .merge (rules at88sc1608 c) (zoneCell (s .zone) a k) (at c (zoneCell (s .zone) a k)) (at xs k)
+      value k =
+          let i : ℕ = zoneCell (s .zone) a k in
+          let q : registerOf (rules at88sc1608 c) (i / 256) ≡ at c (registersAt + s .zone) = zone-register c (s .zone) i (omega arith) ∙ rw register-place in
+          let place : base + (a % 16 + k) % 16 ≡ i = omega arith in
+          ap (λ (x : ℕ). mergedOf merges x (at xs k))
+          (getD-take (base + 16 - base) (drop base c) ((a % 16 + k) % 16) 0 (omega arith) ∙ getD-drop base c ((a % 16 + k) % 16) 0 ∙ ap (at c) place)
+          ∙ sym (zone-merged (rules at88sc1608 c) i (at c i) (at xs k) (omega arith) ∙ rw (fuse-rule c, q, ← m))

@@ -5,9 +5,11 @@ ghost use Prim.Native.Nat.{_+_, _%_, _<_, _≤_};
 ghost use lib.ListN.{length, drop};
 ghost use Rattle.model.specs.Sizes.{cardSize};
 ghost use Rattle.model.specs.Lists.{at, tab};
+ghost use Rattle.model.specs.At88sc1608.{at88sc1608};
+ghost use Rattle.model.specs.Staging.{finalValues};
 ghost use Rattle.model.specs.Command.{readZone, writeZone};
 ghost use Rattle.model.specs.Single.{apply};
-ghost use Rattle.memory.specs.ZonePage.{mergesOf};
+ghost use Rattle.memory.specs.ZonePage.{mergesOf, StageRight};
 ghost use Rattle.access.specs.State.{volatileOf};
 use crate::page;
 use access::register;
@@ -80,4 +82,27 @@ pub fn write_zone(card: &mut [u8], state: Volatile, address: u8, bytes: &[u8])
     let end = base + 16;
     let low = address as usize % 16;
     page::store(&mut card[base..end], low, bytes, pgo);
+}
+
+// helper: whether the selected zone may be written, at whatever address.
+pub fn may_stage(card: &[u8], state: Volatile) -> bool
+    requires { ⌜ (length (now card) ≡ cardSize) × (state .zone .0 < 8) ⌝ }
+    ensures { λ r. ⌜ StageRight r (now (card .entry)) (volatileOf state) ⌝ }
+{
+    let zone = state.zone.0 as usize;
+    zone_writable(card[FUSES], card[REGISTERS + zone], state)
+}
+
+// helper: what the bytes of a staged write are to leave, written at the front of a space.
+pub fn final_values(card: &[u8], state: Volatile, address: u8, bytes: &[u8], values: &mut [u8])
+    requires { ⌜ (length (now card) ≡ cardSize) × (state .zone .0 < 8) × (length (now bytes) ≤ 8) × (length (now bytes) ≤ length (now values)) ⌝ }
+    ensures { λ _. ⌜ now (values .exit)
+        ≡ finalValues at88sc1608 (now (card .entry)) (state .zone .0) address (now (bytes .entry))
+        ++ drop (length (now (bytes .entry))) (now (values .entry)) ⌝ }
+{
+    let zone = state.zone.0 as usize;
+    let pgo = merges(card[FUSES], card[REGISTERS + zone]);
+    let base = zone * 256 + address as usize / 16 * 16;
+    let low = address as usize % 16;
+    page::merge(&card[base..base + 16], low, bytes, pgo, values);
 }

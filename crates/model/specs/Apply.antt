@@ -5,8 +5,8 @@ use mathlib.Core.List.{List, [], _∷_}
 use lib.Dec.{eqb}
 use lib.ListN.{set}
 use Rattle.model.specs.Lists.{at, tab, sameList, stores}
-use Rattle.model.specs.Volatile.{Volatile, none, selector, idle, begun, granted, powerUp, isBegun, selecting, activating, authenticating}
-use Rattle.model.specs.Command.{Command, powerCycle, reset, select, readZone, writeZone, readConfiguration, writeConfiguration, readFuses, writeFuses}
+use Rattle.model.specs.Volatile.{Volatile, none, selector, idle, begun, granted, isBegun, selecting, activating, authenticating}
+use Rattle.model.specs.Command.{Command, reset, select, readZone, writeZone, readConfiguration, writeConfiguration, readFuses, writeFuses}
 use Rattle.model.specs.Command.{verifyPassword, beginAuthentication, verifyAuthentication}
 use Rattle.model.specs.Device.{Device, spent}
 use Rattle.model.specs.Call.{Acted, Powered, Tried, acted, attempted, powered, silent, tried}
@@ -80,8 +80,6 @@ module _ (D : Device) where
   judged denied c s xs = powered c (authenticating s idle)
 
   unfoldable pub apply : List ℕ → Volatile → Command → Acted Volatile
-  -- 1: the state is that of power-up; the card stays
-  apply c s powerCycle = acted c powerUp []
   -- 2: no password is active and authentication is idle; the zone and the card stay
   apply c s reset =
       acted c (authenticating (activating s none) idle) (tab (λ k. D .sent (at c (D .resetByte k))) (D .resetCount))

@@ -1,9 +1,10 @@
--- The AT88SC1608 as a device: eight zones of 256 bytes, 128 configuration bytes, the fuse byte ("The card").
+-- The AT88SC1608 as a device: eight zones of 256 bytes, 128 configuration bytes, the fuse byte ("The card"), twelve staging bytes ("Writes
+-- that survive a pulled card").
 use Prim.Native.Nat.{ℕ, _+_, _-_, _*_, _/_, _%_}
 use mathlib.Core.Bool.{Bool, false, cond}
 use mathlib.Core.List.{List}
 use lib.Dec.{ltb, eqb}
-use Rattle.model.specs.Sizes.{cardSize, fuseAt}
+use Rattle.model.specs.Sizes.{cardSize, fuseAt, flagAt, mostStaged}
 use Rattle.model.specs.Lists.{at}
 use Rattle.model.specs.Bits.{reversed, spentCounter, triesLeft}
 use Rattle.model.specs.Volatile.{Volatile, isActive}
@@ -90,6 +91,8 @@ at88sc1608 =
       zones = 8;
       selectors = 16;
       fuseAt = fuseAt;
+      flagAt = flagAt;
+      mostStaged = mostStaged;
       ruleAt = ruleAt;
       ruleCount = 9;
       mayRead = mayRead;

@@ -79,13 +79,14 @@ busyCards =
       times (blank 7) ((1 ∷ []) ∷ (2 ∷ []) ∷ (3 ∷ 1 ∷ []) ∷ (4 ∷ 0 ∷ 1 ∷ []) ∷ (6 ∷ 0 ∷ 1 ∷ []) ∷ (8 ∷ []) ∷ waiting 1 ∷ polling ∷ []) ∷ [],
       replicate 8 0 ∷ [],
     )
-    -- met while busy: kinds 2 to 12 are ignored, 13, 14 and 1 act
+    -- met while busy: kinds 2 to 12 and 15 are ignored, 13, 14, 16 and 1 act
     ∷ (
       kinds (blank 7)
           (writing ∷ (2 ∷ []) ∷ (3 ∷ 1 ∷ []) ∷ (4 ∷ 0 ∷ 1 ∷ []) ∷ (5 ∷ 0 ∷ 1 ∷ 1 ∷ []) ∷ (6 ∷ 0 ∷ 1 ∷ []) ∷ (7 ∷ 0 ∷ 1 ∷ 1 ∷ [])
-          ∷ (8 ∷ []) ∷ (9 ∷ []) ∷ rightSeven ∷ (11 ∷ []) ∷ verdict 1 ∷ waiting 1 ∷ polling ∷ (1 ∷ []) ∷ (8 ∷ []) ∷ [])
+          ∷ (8 ∷ []) ∷ (9 ∷ []) ∷ rightSeven ∷ (11 ∷ []) ∷ verdict 1 ∷ (15 ∷ 0 ∷ 1 ∷ 1 ∷ []) ∷ waiting 1 ∷ polling
+          ∷ (16 ∷ 255 ∷ 0 ∷ []) ∷ (1 ∷ []) ∷ (8 ∷ []) ∷ [])
           ∷ [],
-      (5 ∷ 130 ∷ 131 ∷ 132 ∷ 133 ∷ 134 ∷ 135 ∷ 136 ∷ 137 ∷ 138 ∷ 139 ∷ 140 ∷ 13 ∷ 14 ∷ 1 ∷ 8 ∷ []) ∷ [],
+      (5 ∷ 130 ∷ 131 ∷ 132 ∷ 133 ∷ 134 ∷ 135 ∷ 136 ∷ 137 ∷ 138 ∷ 139 ∷ 140 ∷ 143 ∷ 13 ∷ 14 ∷ 16 ∷ 1 ∷ 8 ∷ []) ∷ [],
     )
     -- an ignored write stores nothing and adds no time
     ∷ (
@@ -100,7 +101,7 @@ busyCards =
     )
     -- while busy a bad record is refused as ever, and no space is too short; ready, a read of 16 bytes does not fit into four
     ∷ (
-      refusals (blank 7) (writing ∷ (3 ∷ 8 ∷ []) ∷ (15 ∷ []) ∷ (2 ∷ 0 ∷ []) ∷ (13 ∷ []) ∷ waiting 0 ∷ (4 ∷ 0 ∷ 16 ∷ []) ∷ [])
+      refusals (blank 7) (writing ∷ (3 ∷ 8 ∷ []) ∷ (17 ∷ []) ∷ (2 ∷ 0 ∷ []) ∷ (13 ∷ []) ∷ waiting 0 ∷ (4 ∷ 0 ∷ 16 ∷ []) ∷ [])
           ∷ refusals (blank 7) ((4 ∷ 0 ∷ 16 ∷ []) ∷ []) ∷ kinds (blank 7) (writing ∷ (3 ∷ 8 ∷ []) ∷ (4 ∷ 0 ∷ 16 ∷ []) ∷ []) ∷ [],
       (0 ∷ 7 ∷ 6 ∷ 9 ∷ 8 ∷ 7 ∷ 0 ∷ []) ∷ (10 ∷ []) ∷ (5 ∷ 0 ∷ 132 ∷ []) ∷ [],
     )

@@ -116,11 +116,11 @@ module _ {S K : Type 0} (check : List ℕ → S → ℕ) (decode : List ℕ → 
   abbrev pub admit : List ℕ → S → Call → Decoded K
   admit c s x = admission c s (x .sent) (length (x .space))
 
-  -- by the state and the command: the kind that is answered
-  module _ (kind : S → K → ℕ) where
+  -- by the card, the state and the command: the kind that is answered
+  module _ (kind : List ℕ → S → K → ℕ) where
     abbrev pub carried : List ℕ → S → List ℕ → Decoded K → Called S
     carried c s space (refused n) = record { card = c; reply = refusing n s space }
-    carried c s space (whole k n) = record { card = act c s k .card; reply = replying (kind s k) space (act c s k .report) }
+    carried c s space (whole k n) = record { card = act c s k .card; reply = replying (kind c s k) space (act c s k .report) }
 
     unfoldable pub command : List ℕ → S → Call → Called S
     command c s x = carried c s (x .space) (admit c s x)

@@ -1,10 +1,9 @@
--- The twelve kinds of command with their fields ("What each command does"). Data bytes are a list.
+-- The eleven kinds of command that a card with power carries out, with their fields ("What each command does"). Data bytes are a list.
 use Prim.Native.Nat.{ℕ}
 use mathlib.Core.Bool.{Bool}
 use mathlib.Core.List.{List}
 
 pub data Command : Type 0 where
-  powerCycle : Command
   reset : Command
   -- a zone
   select : ℕ → Command

@@ -4,6 +4,7 @@ use Rattle.model.specs.Bits.{reversed, spentCounter, triesLeft}
 use Rattle.model.specs.Access.{permissions, areaOf, stageOf, permission, permits}
 use Rattle.model.specs.At88sc1608.{mayRead, mayWrite, merge, blow}
 use Rattle.model.specs.Apply as any
+use Rattle.model.specs.Cells.{writeCells}
 use Rattle.model.specs.Busy.{perform, act}
 use Rattle.model.specs.Call as calls
 use Rattle.model.specs.Record.{kinds, fixedFields, inRange, dataLength, made, decode}
@@ -12,5 +13,6 @@ use Rattle.model.specs.Single.{checkOf}
 -- to unfold this is to unfold all of it
 unfoldable pub computed : Unit {0}
 unfolding calls.replies calls.final calls.command calls.admission checkOf decode kinds fixedFields inRange dataLength made
-    act perform any.apply tab sameList stores mayRead mayWrite merge permissions areaOf stageOf permission permits reversed spentCounter triesLeft blow
+    act perform any.apply writeCells tab sameList stores mayRead mayWrite merge permissions areaOf stageOf permission
+    permits reversed spentCounter triesLeft blow
 computed = tt

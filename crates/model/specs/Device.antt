@@ -11,8 +11,10 @@ pub record Device : Type 0 where
   pub size : ℕ
   pub zones : ℕ
   pub selectors : ℕ
-  -- where the fuse byte lies
+  -- where the fuse byte lies, where the staging bytes begin, and how many bytes a staged write has at most
   pub fuseAt : ℕ
+  pub flagAt : ℕ
+  pub mostStaged : ℕ
   -- the rule bytes, by which access is judged: where each lies, and how many there are
   pub ruleAt : ℕ → ℕ
   pub ruleCount : ℕ

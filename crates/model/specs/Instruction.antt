@@ -1,17 +1,24 @@
--- What a record asks of a card: a command, or a word about time ("A card that is busy writing"). Its kind is a number.
+-- What a record asks: a command of the card, or something about its power, about time, or a write that survives a loss of power ("What each
+-- command does", "A card that is busy writing", "Writes that survive a pulled card"). Its kind is a number.
 use Prim.Native.Nat.{ℕ}
-use Rattle.model.specs.Command.{Command, powerCycle, reset, select, readZone, writeZone, readConfiguration, writeConfiguration, readFuses, writeFuses}
+use mathlib.Core.List.{List}
+use Rattle.model.specs.Command.{Command, reset, select, readZone, writeZone, readConfiguration, writeConfiguration, readFuses, writeFuses}
 use Rattle.model.specs.Command.{verifyPassword, beginAuthentication, verifyAuthentication}
 
 pub data Instruction : Type 0 where
+  powerCycle : Instruction
   issue : Command → Instruction
   -- so many milliseconds pass
   wait : ℕ → Instruction
   -- whether the card is busy
   poll : Instruction
+  -- a staged write: an address and the bytes
+  writeStaged : ℕ → List ℕ → Instruction
+  -- a tear is armed: after so many cell writes, with a junk byte
+  arm : ℕ → ℕ → Instruction
 
 abbrev pub kindOf : Instruction → ℕ
-kindOf (issue powerCycle) = 1
+kindOf powerCycle = 1
 kindOf (issue reset) = 2
 kindOf (issue (select z)) = 3
 kindOf (issue (readZone a n)) = 4
@@ -25,3 +32,5 @@ kindOf (issue beginAuthentication) = 11
 kindOf (issue (verifyAuthentication v xs)) = 12
 kindOf (wait n) = 13
 kindOf poll = 14
+kindOf (writeStaged a xs) = 15
+kindOf (arm k junk) = 16

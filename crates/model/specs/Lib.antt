@@ -11,6 +11,8 @@ pub mod Instruction
 pub mod Device
 pub mod Call
 pub mod Apply
+pub mod Cells
+pub mod Staging
 pub mod Busy
 pub mod Access
 pub mod At88sc1608
@@ -29,3 +31,4 @@ pub mod ClosedBytes
 pub mod BusyCards
 pub mod NamedZones
 pub mod WrittenSessions
+pub mod TornWrites

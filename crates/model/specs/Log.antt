@@ -1,6 +1,6 @@
 -- The log ("Session and log", "The zone named in the log"): how it is laid out, when it is accepted, and where an answer lies in it.
 use Prim.Native.Nat.{ℕ, zero, suc, _+_, _-_, _≤_}
-use mathlib.Core.Bool.{Bool, true, false, cond, not, _&&_, _||_}
+use mathlib.Core.Bool.{Bool, true, cond, not, _&&_, _||_}
 use mathlib.Core.List.{List, [], _∷_, _++_}
 use mathlib.Core.Path.{_≡_}
 use lib.Dec.{ltb, leb, eqb}
@@ -11,9 +11,9 @@ use Rattle.model.specs.Numbers.{bytesOf, numberAt}
 use Rattle.model.specs.Busy.{actsAlways}
 use Rattle.model.specs.Record.{known, lengthFits}
 use Rattle.model.specs.Refusal.{notALog, noSuchAnswer}
-use Rattle.model.specs.Single.{isFuseByte}
+use Rattle.model.specs.Single.{isFuseByte, stagingFits}
 
--- ---- the endings
+-- ---- the ending
 
 -- a log's last byte, and which kinds of entries name the zone under it
 pub record Ending : Type 0 where
@@ -24,21 +24,9 @@ pub record Ending : Type 0 where
 abbrev pub namesZone : ℕ → Bool
 namesZone kind = eqb kind 4 || (eqb kind 5 || (eqb kind 132 || eqb kind 133))
 
--- the ending of every log that is written; and the other one that is read, under which no entry names the zone
+-- that of every log
 abbrev pub zoned : Ending
 zoned = record { last = 0x50; names = namesZone }
-
-abbrev pub plain : Ending
-plain = record { last = 0x4F; names = λ kind. false }
-
--- one of the two, by whether zones are named
-abbrev pub ending : Bool → Ending
-ending true = zoned
-ending false = plain
-
--- the one by which a log is judged
-abbrev pub endingOf : List ℕ → Ending
-endingOf l = ending (eqb (at l (length l - 1)) 0x50)
 
 -- ---- the layout
 
@@ -100,6 +88,7 @@ module _ (E : Ending) where
     pub fit : AllFit es
     pub long : length card ≡ cardSize
     pub stage : isFuseByte (at card fuseAt) ≡ true
+    pub staging : stagingFits card ≡ true
     pub same : l ≡ logBytes es card
 
 -- ---- the check, by places in the log
@@ -138,7 +127,8 @@ module _ (E : Ending) where
       leb leastLog (length l)
       && (eqb (at l (length l - 2)) 0x4C
       && (eqb (at l (length l - 1)) (E .last)
-      && (leb (countOf l) mostRecords && (eqb (offsetOf l + leastLog) (length l) && isFuseByte (at l (offsetOf l + fuseAt))))))
+      && (leb (countOf l) mostRecords
+      && (eqb (offsetOf l + leastLog) (length l) && (isFuseByte (at l (offsetOf l + fuseAt)) && stagingFits (drop (offsetOf l) l))))))
 
   unfoldable pub validAs : List ℕ → Bool
   validAs l = trailerOk l && entriesOk (countOf l) l 0 (offsetOf l)
@@ -148,9 +138,8 @@ module _ (E : Ending) where
   entryPlace zero l i = i
   entryPlace (suc k) l i = entryPlace k l (nextEntry l i)
 
--- each log by its own ending
 abbrev pub valid : List ℕ → Bool
-valid l = validAs (endingOf l) l
+valid l = validAs zoned l
 
 -- ---- an answer
 
@@ -161,13 +150,13 @@ pub data Found : Type 0 where
 
 -- the place of the entry of answer k
 abbrev pub placeOf : List ℕ → ℕ → ℕ
-placeOf l k = entryPlace (endingOf l) k l 0
+placeOf l k = entryPlace zoned k l 0
 
 -- 13, 14, or where answer k lies
 unfoldable pub find : List ℕ → ℕ → Found
 find l k =
     cond (not (valid l)) (missing notALog)
-    (cond (not (ltb k (countOf l))) (missing noSuchAnswer) (located (responseAt (endingOf l) l (placeOf l k)) (lengthAt l (placeOf l k))))
+    (cond (not (ltb k (countOf l))) (missing noSuchAnswer) (located (responseAt zoned l (placeOf l k)) (lengthAt l (placeOf l k))))
 
 -- its bytes
 abbrev pub answerIn : List ℕ → Found → List ℕ

@@ -1,4 +1,4 @@
--- Records ("What each command does", "Sent back with a number"): a kind byte, its fixed fields, its data. The fourteen kinds are one
+-- Records ("What each command does", "Sent back with a number"): a kind byte, its fixed fields, its data. The sixteen kinds are one
 -- table, from which the decoder and the log's check both read.
 use Prim.Native.Nat.{ℕ, _+_, _-_}
 use mathlib.Core.Bool.{Bool, true, cond, not, _&&_}
@@ -7,9 +7,9 @@ use lib.Dec.{ltb, leb, eqb}
 use lib.ListN.{length, take, drop, getD}
 use Rattle.model.specs.Lists.{at}
 use Rattle.model.specs.Call.{Decoded, refused, whole}
-use Rattle.model.specs.Command.{powerCycle, reset, select, readZone, writeZone, readConfiguration, writeConfiguration, readFuses, writeFuses}
+use Rattle.model.specs.Command.{reset, select, readZone, writeZone, readConfiguration, writeConfiguration, readFuses, writeFuses}
 use Rattle.model.specs.Command.{verifyPassword, beginAuthentication, verifyAuthentication}
-use Rattle.model.specs.Instruction.{Instruction, issue, wait, poll}
+use Rattle.model.specs.Instruction.{Instruction, powerCycle, issue, wait, poll, writeStaged, arm}
 use Rattle.model.specs.Refusal.{unknownKind, fieldOutOfRange, cutShort}
 
 -- ---- the kinds
@@ -42,7 +42,7 @@ none n = 0
 unfoldable pub kinds : List Kind
 kinds =
     -- 1 power cycle, 2 reset
-    row 0 any none (λ a n xs. issue powerCycle) (exactly 0)
+    row 0 any none (λ a n xs. powerCycle) (exactly 0)
     ∷ row 0 any none (λ a n xs. issue reset) (exactly 4)
     -- 3 select: a zone
     ∷ row 1 (λ a n. leb a 7) none (λ a n xs. issue (select a)) (exactly 0)
@@ -67,14 +67,18 @@ kinds =
     ∷ row 1 (λ a n. between 1 255 a) none (λ a n xs. wait a) (exactly 0)
     -- 14 poll
     ∷ row 0 any none (λ a n xs. poll) (exactly 1)
+    -- 15 staged write: an address, a count, so many bytes
+    ∷ row 2 (λ a n. between 1 8 n) (λ n. n) (λ a n xs. writeStaged a xs) (exactly 0)
+    -- 16 arm: cell writes, a junk byte
+    ∷ row 2 any none (λ a n xs. arm a n) (exactly 0)
     ∷ []
 
 abbrev pub known : ℕ → Bool
-known kind = not (eqb kind 0) && leb kind 14
+known kind = not (eqb kind 0) && leb kind 16
 
 -- the row of a known kind; one without fields, data and answer stands for all others
 abbrev pub rowOf : ℕ → Kind
-rowOf kind = getD kinds (kind - 1) (row 0 any none (λ a n xs. issue powerCycle) (exactly 0))
+rowOf kind = getD kinds (kind - 1) (row 0 any none (λ a n xs. powerCycle) (exactly 0))
 
 unfoldable pub fixedFields : ℕ → ℕ
 fixedFields kind = rowOf kind .fixed

@@ -45,3 +45,6 @@ noSuchAnswer = 14
 
 abbrev pub titleLength : ℕ
 titleLength = 15
+
+abbrev pub stagingBytes : ℕ
+stagingBytes = 16

@@ -8,12 +8,12 @@ use Rattle.model.specs.Sizes.{cardSize, fuseAt, trailerSize, leastSessio
 use Rattle.model.specs.Lists.{at}
 use Rattle.model.specs.Numbers.{numberAt}
 use Rattle.model.specs.Instruction.{Instruction, kindOf}
-use Rattle.model.specs.Busy.{State, powerOn, answeredKind}
+use Rattle.model.specs.Busy.{State, powerOn}
 use Rattle.model.specs.Call.{Powered, powered, Decoded, refused, whole}
-use Rattle.model.specs.Refusal.{sessionLength, sessionTrailer, startOutOfRange, tooManyRecords, fuseByte, bytesLeft, noSpace}
+use Rattle.model.specs.Refusal.{sessionLength, sessionTrailer, startOutOfRange, tooManyRecords, fuseByte, stagingBytes, bytesLeft, noSpace}
 use Rattle.model.specs.Log.{Entry, zoned, headerLength, logBytes}
 use Rattle.model.specs.Reader.{recordsEnd, nextOf}
-use Rattle.model.specs.Single.{isFuseByte, perform, act}
+use Rattle.model.specs.Single.{isFuseByte, stagingFits, answeredKind, perform, act}
 
 -- ---- the frame: the card, free text, the records, the trailer
 
@@ -27,7 +27,7 @@ startOf s = numberAt s (length s - trailerSize) 4
 abbrev pub countOf : List ℕ → ℕ
 countOf s = numberAt s (length s - 4) 2
 
--- 1 to 5, each by itself
+-- 1 to 5 and 16, each by itself
 abbrev pub wrongLength : List ℕ → Bool
 wrongLength s = not (leb leastSession (length s) && leb (length s) greatestSession)
 
@@ -43,12 +43,16 @@ wrongCount s = ltb mostRecords (countOf s)
 abbrev pub wrongFuses : List ℕ → Bool
 wrongFuses s = not (isFuseByte (at s fuseAt))
 
+abbrev pub wrongStaging : List ℕ → Bool
+wrongStaging s = not (stagingFits s)
+
 -- in this order; 0 where none of them applies
 unfoldable pub frame : List ℕ → ℕ
 frame s =
     cond (wrongLength s) sessionLength
     (cond (wrongTrailer s) sessionTrailer
-    (cond (wrongStart s) startOutOfRange (cond (wrongCount s) tooManyRecords (cond (wrongFuses s) fuseByte 0))))
+    (cond (wrongStart s) startOutOfRange
+    (cond (wrongCount s) tooManyRecords (cond (wrongFuses s) fuseByte (cond (wrongStaging s) stagingBytes 0)))))
 
 -- ---- the records in turn
 
@@ -80,7 +84,7 @@ readFrom (suc n) s i = onDecoded (nextOf s i) stopped (λ k m. more k (readFrom 
 abbrev pub logged : Powered State → Instruction → Entry
 logged m k =
     record {
-      kind = answeredKind (m .state) k;
+      kind = answeredKind (m .card) (m .state) k;
       zone = m .state .volatile .zone;
       response = act (m .card) (m .state) k .report .answer;
     }

@@ -10,11 +10,12 @@ use Rattle.model.specs.Volatile.{Volatile, Active, none, selector}
 use Rattle.model.specs.Command.{Command}
 use Rattle.model.specs.Instruction.{Instruction}
 use Rattle.model.specs.Device.{Device}
-use Rattle.model.specs.Refusal.{cardLength, fuseByte, stateOutOfRange}
+use Rattle.model.specs.Refusal.{cardLength, fuseByte, stagingBytes, stateOutOfRange}
 use Rattle.model.specs.Call.{Call, Called, Decoded, Powered, Reply}
 use Rattle.model.specs.Call as calls
 use Rattle.model.specs.Apply as any
-use Rattle.model.specs.Busy.{State, writeTime, answeredKind}
+use Rattle.model.specs.Staging as any-staging
+use Rattle.model.specs.Busy.{State, writeTime}
 use Rattle.model.specs.Busy as any-busy
 use Rattle.model.specs.At88sc1608.{at88sc1608}
 use Rattle.model.specs.Record.{decode}
@@ -33,16 +34,21 @@ volatileInRange D v = ltb (v .zone) (D .zones) && activeBelow (D .selectors) (v 
 abbrev pub stateInRange : Device → State → Bool
 stateInRange D s = volatileInRange D (s .volatile) && leb (s .busy) writeTime
 
--- 11, 5, 12 in this order; 0 where none of them applies
+-- 11, 5, 16, 12 in this order; 0 where none of them applies
 unfoldable pub checkOf : Device → List ℕ → State → ℕ
 checkOf D c s =
     cond (not (eqb (length c) (D .size))) cardLength
-    (cond (not (isFuseByte (at c (D .fuseAt)))) fuseByte (cond (not (stateInRange D s)) stateOutOfRange 0))
+    (cond (not (isFuseByte (at c (D .fuseAt)))) fuseByte
+    (cond (not (any-staging.stagingFits D c)) stagingBytes (cond (not (stateInRange D s)) stateOutOfRange 0)))
 
 abbrev pub check : List ℕ → State → ℕ
 check = checkOf at88sc1608
 
--- the twelve commands of a card that is ready, and every instruction
+-- whether a card's staging bytes are well
+abbrev pub stagingFits : List ℕ → Bool
+stagingFits = any-staging.stagingFits at88sc1608
+
+-- the commands of a card that is ready, and every instruction
 abbrev pub apply : List ℕ → Volatile → Command → calls.Acted Volatile
 apply = any.apply at88sc1608
 
@@ -52,7 +58,11 @@ perform = any-busy.perform at88sc1608
 abbrev pub act : List ℕ → State → Instruction → calls.Acted State
 act = any-busy.act at88sc1608
 
--- of a record and the room for a response: 11, 5, 12, the record, 9, 10; or the instruction that is carried out
+-- the kind that is answered, and logged
+abbrev pub answeredKind : List ℕ → State → Instruction → ℕ
+answeredKind = any-busy.answeredKind at88sc1608
+
+-- of a record and the room for a response: 11, 5, 16, 12, the record, 9, 10; or the instruction that is carried out
 abbrev pub admission : List ℕ → State → List ℕ → ℕ → Decoded Instruction
 admission = calls.admission check decode act
 

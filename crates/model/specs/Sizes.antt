@@ -1,12 +1,18 @@
 -- The sizes of the card, of sessions and of logs, each under one name ("The card", "Session and log").
 use Prim.Native.Nat.{ℕ, _+_}
 
--- zones and configuration, then the fuse byte
+-- zones and configuration, then the fuse byte, then the staging bytes: the flag, three that name a write, the values of at most eight bytes
 abbrev pub fuseAt : ℕ
 fuseAt = 2176
 
+abbrev pub flagAt : ℕ
+flagAt = 2177
+
+abbrev pub mostStaged : ℕ
+mostStaged = 8
+
 abbrev pub cardSize : ℕ
-cardSize = 2177
+cardSize = 2189
 
 -- what stands behind the records of a session, and behind the card of a log
 abbrev pub trailerSize : ℕ

@@ -8,9 +8,9 @@ use Rattle.model.specs.Sizes.{cardSize, fuseAt, greatestSession, mostRec
 use Rattle.model.specs.Lists.{at}
 use Rattle.model.specs.Numbers.{bytesOf}
 use Rattle.model.specs.Record.{decode}
-use Rattle.model.specs.Refusal.{sessionLength, tooManyRecords, fuseByte, bytesLeft, cardLength, titleLength}
+use Rattle.model.specs.Refusal.{sessionLength, tooManyRecords, fuseByte, stagingBytes, bytesLeft, cardLength, titleLength}
 use Rattle.model.specs.Session.{onDecoded, Ran, rejected, written}
-use Rattle.model.specs.Single.{isFuseByte}
+use Rattle.model.specs.Single.{isFuseByte, stagingFits}
 
 -- what a session is made from
 pub record Parts : Type 0 where
@@ -39,14 +39,15 @@ abbrev pub recordsRefusal : ℕ → List ℕ → ℕ
 recordsRefusal zero part = cond (eqb (length part) 0) 0 bytesLeft
 recordsRefusal (suc n) part = onDecoded (decode part) (λ r. r) (λ k m. recordsRefusal n (drop m part))
 
--- 11, 1, 4, 5, 15, the records in turn, 9; 0 where none of them applies
+-- 11, 1, 4, 5, 16, 15, the records in turn, 9; 0 where none of them applies
 unfoldable pub partsRefusal : Parts → ℕ
 partsRefusal p =
     cond (not (eqb (length (p .card)) cardSize)) cardLength
     (cond (ltb greatestSession (length (sessionBytes p))) sessionLength
     (cond (ltb mostRecords (p .count)) tooManyRecords
     (cond (not (isFuseByte (at (p .card) fuseAt))) fuseByte
-    (cond (ltb mostTitle (length (p .title))) titleLength (recordsRefusal (p .count) (p .records))))))
+    (cond (not (stagingFits (p .card))) stagingBytes
+    (cond (ltb mostTitle (length (p .title))) titleLength (recordsRefusal (p .count) (p .records)))))))
 
 -- ---- the call: its refusal or 0, the session's length, the whole lent space
 

@@ -17,10 +17,12 @@ use Rattle.model.specs.Call.{Decoded, refused, whole}
 use Rattle.laws.specs.CallLaws.{clear}
 use Rattle.model.specs.Reader.{recordsEnd, partAt, nextOf}
 use Rattle.model.specs.Refusal.{bytesLeft, noSpace}
+use Rattle.model.specs.At88sc1608.{at88sc1608}
+use Rattle.laws.specs.StagingLaws.{staging-same}
 use Rattle.laws.specs.Sane.{Good}
-use Rattle.model.specs.Session.{cardOf, startOf, countOf, wrongLength, wrongTrailer, wrongStart, wrongCount, wrongFuses, frame, framed, run}
+use Rattle.model.specs.Session.{cardOf, startOf, countOf, wrongLength, wrongTrailer, wrongStart, wrongCount, wrongFuses, wrongStaging, frame, framed, run}
 use Rattle.model.specs.Session.{Read, stopped, all, onDecoded, more, readFrom, logOf, initial, fullEntries, rejected, written, ended}
-use Rattle.model.specs.Single.{isFuseByte}
+use Rattle.model.specs.Single.{isFuseByte, stagingFits}
 use Rattle.properties.specs.SessionLaws.{refusal-nonzero, end-length, full-total, entries-most}
 use Rattle.properties.specs.AcceptedSession.{Accepts, accepting}
 
@@ -35,6 +37,7 @@ pub record Framed (s : List ℕ) : Type 0 where
   pub high : startOf s ≤ length s - trailerSize
   pub few : countOf s ≤ mostRecords
   pub stage : isFuseByte (at s fuseAt) ≡ true
+  pub staging : stagingFits s ≡ true
 
 pub framed-well : (s : List ℕ) → frame s ≡ 0 → Framed s
 unfolding frame
@@ -43,7 +46,8 @@ framed-well s e =
     let p₂ = clear (wrongTrailer s) 1 _ (p₁ .1) in
     let p₃ = clear (wrongStart s) 2 _ (p₂ .1) in
     let p₄ = clear (wrongCount s) 3 _ (p₃ .1) in
-    let p₅ = clear (wrongFuses s) 4 0 (p₄ .1) in
+    let p₅ = clear (wrongFuses s) 4 _ (p₄ .1) in
+    let p₆ = clear (wrongStaging s) 15 0 (p₅ .1) in
     let q₁ = not-false _ (p₁ .0) in
     let q₂ = not-false _ (p₂ .0) in
     let q₃ = not-false _ (p₃ .0) in
@@ -56,6 +60,7 @@ framed-well s e =
       high = leb-true _ _ (and-right (leb cardSize (startOf s)) _ q₃);
       few = ltb-false _ _ (p₄ .0);
       stage = not-false _ (p₅ .0);
+      staging = not-false _ (p₆ .0);
     }
 
 pub well-framed : (s : List ℕ) → Framed s → frame s ≡ 0
@@ -70,6 +75,7 @@ well-framed s f =
       le-leb _ _ (f .high),
       le-ltb _ _ (f .few),
       f .stage,
+      f .staging,
     )
 
 -- the session's card, at power-up
@@ -80,6 +86,7 @@ card-good s f =
           record {
             long = length-take-le cardSize s (let l = f .long in omega arith);
             stage = rw (getD-take cardSize s fuseAt 0 (omega arith)) (f .stage);
+            staging = staging-same at88sc1608 s (cardOf s) (λ j l h. getD-take cardSize s j 0 (omega arith)) ∙ f .staging;
             range = refl;
           };
       time = omega arith;

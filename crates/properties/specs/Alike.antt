@@ -16,14 +16,19 @@ use Rattle.model.specs.Instruction.{Instruction}
 use Rattle.model.specs.Call.{Decoded, refused, whole}
 use Rattle.model.specs.Reader.{recordsEnd, partAt, nextOf}
 use Rattle.model.specs.Record.{recordLength, decode}
-use Rattle.model.specs.Refusal.{sessionLength, sessionTrailer, startOutOfRange, tooManyRecords, fuseByte}
-use Rattle.model.specs.Session.{startOf, countOf, wrongLength, wrongTrailer, wrongStart, wrongCount, wrongFuses, frame, stopped, onDecoded, more, readFrom}
+use Rattle.model.specs.Refusal.{sessionLength, sessionTrailer, startOutOfRange, tooManyRecords, fuseByte, stagingBytes}
+use Rattle.model.specs.At88sc1608.{at88sc1608}
+use Rattle.laws.specs.StagingLaws.{staging-same}
+use Rattle.model.specs.Session.{startOf, countOf, wrongLength, wrongTrailer, wrongStart, wrongCount, wrongFuses, wrongStaging}
+use Rattle.model.specs.Session.{frame, stopped, onDecoded, more, readFrom}
 use Rattle.secrecy.specs.Secret.{AgreeOutside}
 use Rattle.properties.specs.AsCalls.{callOf, callsFrom}
 
--- 2 to 5
+-- 2 to 5 and 16
 abbrev rest : List ℕ → ℕ
-rest s = cond (wrongTrailer s) sessionTrailer (cond (wrongStart s) startOutOfRange (cond (wrongCount s) tooManyRecords (cond (wrongFuses s) fuseByte 0)))
+rest s =
+    cond (wrongTrailer s) sessionTrailer
+    (cond (wrongStart s) startOutOfRange (cond (wrongCount s) tooManyRecords (cond (wrongFuses s) fuseByte (cond (wrongStaging s) stagingBytes 0))))
 
 module _ (hidden : ℕ → Bool) (in-card : (i : ℕ) → fuseAt ≤ i → hidden i ≡ false) (s₁ s₂ : List ℕ) (agree : AgreeOutside hidden s₁ s₂) where
   same-from : (i : ℕ) → fuseAt ≤ i → drop i s₁ ≡ drop i s₂
@@ -69,7 +74,15 @@ module _ (hidden : ℕ → Bool) (in-card : (i : ℕ) → fuseAt ≤ i → hidde
 
     rest-same : rest s₁ ≡ rest s₂
     rest-same =
-        rw (byte-same 2 (omega arith), byte-same 1 (omega arith), start-same, count-same, agree .long, agree .same fuseAt (in-card fuseAt (omega arith)))
+        rw (
+          byte-same 2 (omega arith),
+          byte-same 1 (omega arith),
+          start-same,
+          count-same,
+          agree .long,
+          agree .same fuseAt (in-card fuseAt (omega arith)),
+          staging-same at88sc1608 s₂ s₁ (λ j l h. agree .same j (in-card j (omega arith))),
+        )
 
   pub frame-same : frame s₁ ≡ frame s₂
   unfolding frame

@@ -6,7 +6,7 @@ use mathlib.Core.Path.{_≡_, refl, ap, subst, _∙_}
 use native.Mathlib.Omega.{arith}
 use lib.ListN.{take, replicate, length-take, length-replicate}
 use lib.Seq.{take-append-seam}
-use Rattle.model.specs.Busy.{State, answeredKind}
+use Rattle.model.specs.Busy.{State}
 use Rattle.model.specs.Instruction.{Instruction}
 use Rattle.model.specs.At88sc1608.{at88sc1608}
 use Rattle.model.specs.Call.{Powered, Reply, Call, calling, whole, admit, step, carried}
@@ -19,11 +19,10 @@ use Rattle.model.specs.Record.{recordLength, decode}
 use Rattle.laws.specs.RecordLaws.{accepted, decode-ranged, decode-front}
 use Rattle.laws.specs.Sane.{Good, check-good, good-after}
 use Rattle.model.specs.Session.{readFrom, all, logged, after, entriesOf, endOf}
-use Rattle.model.specs.Single.{check, act, command, replies, final}
+use Rattle.model.specs.Single.{check, answeredKind, act, command, replies, final}
 use Rattle.secrecy.specs.Along.{Along}
 use Rattle.properties.specs.Conditions.{responseLength}
-use Rattle.properties.specs.AcceptedSession.{Every}
-use Rattle.properties.specs.SessionSecret.{triesIn, statesIn}
+use Rattle.properties.specs.SessionSecret.{triesIn, statesIn, EveryAlong}
 use Rattle.properties.specs.SessionLaws.{read-first, read-none}
 use Rattle.properties.specs.ConditionsLaws.{decode-answer}
 
@@ -62,7 +61,8 @@ module _ (s : List ℕ) (i : ℕ) (k : Instruction) (n : ℕ) (e : decode (partA
         checks = check-good (m .card) (m .state) g;
         decodes = ap (λ (x : ℕ). decode (take x (partAt s i))) length-is ∙ decode-front (partAt s i) k n e;
         exactly = let l = length-take (recordLength (partAt s i)) (partAt s i) in let q = length-is in omega arith;
-        fits = rw (length-replicate, given-answer at88sc1608 (m .card) (m .state) k, ← (decode-answer (partAt s i) k n e)) (given-most at88sc1608 (m .state) k);
+        fits = rw (length-replicate, given-answer at88sc1608 (m .card) (m .state) k, ← (decode-answer (partAt s i) k n e))
+            (given-most at88sc1608 (m .card) (m .state) k);
       }
 
   pub does : command (m .card) (m .state) (callAt s i) ≡ carried check decode act answeredKind (m .card) (m .state) (callAt s i .space) (whole k n)
@@ -74,7 +74,7 @@ module _ (s : List ℕ) (i : ℕ) (k : Instruction) (n : ℕ) (e : decode (partA
   pub enters : entryFrom (m .state .volatile .zone) (command (m .card) (m .state) (callAt s i) .reply) ≡ logged m k
   enters =
       rw does
-      (ap (λ (r : List ℕ). record { kind = answeredKind (m .state) k; zone = m .state .volatile .zone; response = r })
+      (ap (λ (r : List ℕ). record { kind = answeredKind (m .card) (m .state) k; zone = m .state .volatile .zone; response = r })
       (take-append-seam (act (m .card) (m .state) k .report .answer) _))
 
   pub hands : command (m .card) (m .state) (callAt s i) .reply .tries ≡ act (m .card) (m .state) k .report .tries
@@ -87,8 +87,8 @@ module _ (s : List ℕ) (i : ℕ) (k : Instruction) (n : ℕ) (e : decode (partA
   good = good-after (m .card) (m .state) k (decode-ranged (partAt s i) k n e) g
 
   -- and as nothing else
-  pub carries : (Ok : Instruction → Type 0) → Ok k → (k′ : Instruction) (n′ : ℕ) → admit check decode act (m .card) (m .state) (callAt s i) ≡ whole k′ n′
-      → Ok k′
+  pub carries : (Ok : Instruction → Type 0) → Ok k → (k′ : Instruction) (n′ : ℕ)
+      → admit check decode act (m .card) (m .state) (callAt s i) ≡ whole k′ n′ → Ok k′
   carries Ok ok k′ n′ q =
       let a = admitted check decode act (m .card) (m .state) (callAt s i) k′ n′ q .decodes in
       let b = admits .decodes in
@@ -100,7 +100,7 @@ pub record Same (xs : List Call) (ks : List Instruction) (m : Powered State) : T
   pub entries : entriesFrom (m .state .volatile .zone) (replies xs m) ≡ entriesOf ks m
   pub tries : triesFrom (replies xs m) ≡ triesIn ks m
   pub states : statesFrom (replies xs m) ≡ statesIn ks m
-  pub along : (Ok : Instruction → Type 0) → Every Ok ks → Along check decode act answeredKind (λ c s k. Ok k) xs m
+  pub along : (Ok : List ℕ → State → Instruction → Type 0) → EveryAlong Ok ks m → Along check decode act answeredKind Ok xs m
 
 pub as-calls : (n : ℕ) (s : List ℕ) (i : ℕ) (ks : List Instruction) (j : ℕ) → readFrom n s i ≡ all ks j → (m : Powered State) → Good (m .card) (m .state)
     → Same (callsFrom n s i) ks m
@@ -123,5 +123,5 @@ as-calls (suc n) s i ks j e m g =
           ∷ (ap (λ (x : Powered State). triesFrom (replies (callsFrom n s (i + recordLength (partAt s i))) x)) st ∙ r .tries) t;
       states = λ t. moves s i k (f .size) (f .next) m g t
           ∷ (ap (λ (x : Powered State). statesFrom (replies (callsFrom n s (i + recordLength (partAt s i))) x)) st ∙ r .states) t;
-      along = λ Ok o. (carries s i k (f .size) (f .next) m g Ok (o .0), rw st (r .along Ok (o .1)));
+      along = λ Ok o. (carries s i k (f .size) (f .next) m g (Ok (m .card) (m .state)) (o .0), rw st (r .along Ok (o .1)));
     })

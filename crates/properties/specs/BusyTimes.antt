@@ -4,46 +4,50 @@ use mathlib.Core.Bool.{true, false, cond}
 use mathlib.Core.List.{List, [], _∷_, map}
 use mathlib.Core.Path.{_≡_}
 use lib.ListN.{length}
-use Rattle.model.specs.Command.{Command, powerCycle}
-use Rattle.model.specs.Instruction.{Instruction, issue, wait, poll, kindOf}
+use Rattle.model.specs.Command.{Command}
+use Rattle.model.specs.Instruction.{Instruction, powerCycle, issue, wait, poll, kindOf}
 use Rattle.model.specs.At88sc1608.{at88sc1608}
 use Rattle.model.specs.Call.{Powered, powered, acted, silent, whole, calling}
-use Rattle.model.specs.Busy.{State, timed, powerOn, writeTime, isBusy, actsAlways, ignores, makesBusy}
+use Rattle.model.specs.Staging.{isReady}
+use Rattle.model.specs.Busy.{State, timed, poweredUp, writeTime, isBusy, actsBusy, isHalted, ignores, makesBusy}
 use Rattle.model.specs.Record.{decode}
 use Rattle.model.specs.Session.{endOf}
 use Rattle.model.specs.Single.{check, act, command}
 use Rattle.laws.specs.BusyLaws.{total, act-ignored}
-use Rattle.properties.specs.BusyTimesLaws.{busy-ignores, ignored-call, power-ends, busy-after, told, all-waited}
+use Rattle.properties.specs.BusyTimesLaws.{busy-ignores, ignored-call, power-ends, powers-up, busy-after, told, all-waited}
 
--- a busy card ignores every record but those of kinds 1, 13 and 14
-pub ignores-all-but : (s : State) (i : Instruction) → isBusy s ≡ true → actsAlways (kindOf i) ≡ false → ignores s i ≡ true
+-- a busy card ignores every record but those of kinds 1, 13, 14 and 16
+pub ignores-all-but : (c : List ℕ) (s : State) (i : Instruction) → isBusy s ≡ true → actsBusy (kindOf i) ≡ false → ignores at88sc1608 c s i ≡ true
 ignores-all-but = busy-ignores
 
 -- an ignored record leaves the card, the state and the busy time as they were; it answers nothing and hands out no tries
-pub busy-keeps : (c : List ℕ) (s : State) (i : Instruction) → ignores s i ≡ true → act c s i ≡ silent (powered c s)
+pub busy-keeps : (c : List ℕ) (s : State) (i : Instruction) → ignores at88sc1608 c s i ≡ true → act c s i ≡ silent (powered c s)
 busy-keeps = act-ignored at88sc1608
 
 -- so does a single command with such a record, whatever its response space: it answers the kind plus 128
 pub busy-call : (c : List ℕ) (s : State) (i : Instruction) (bytes space : List ℕ) → check c s ≡ 0 → decode bytes ≡ whole i (length bytes)
-    → ignores s i ≡ true
+    → ignores at88sc1608 c s i ≡ true
     → command c s (calling bytes space)
     ≡ record { card = c; reply = record { refusal = 0; kind = kindOf i + 128; size = 0; state = s; tries = 0; space = space } }
 busy-call = ignored-call
 
 -- a command that is not ignored leaves the card busy for 10 ms where it makes it busy, and else ready
-pub busy-time : (c : List ℕ) (s : State) (k : Command) → ignores s (issue k) ≡ false
+pub busy-time : (c : List ℕ) (s : State) (k : Command) → ignores at88sc1608 c s (issue k) ≡ false
     → act c s (issue k) .report .state .busy ≡ cond (makesBusy at88sc1608 c (s .volatile) k) writeTime 0
 busy-time = busy-after
 
--- a power cycle ends it
-pub power-cycle-ends : (c : List ℕ) (s : State) → act c s (issue powerCycle) ≡ acted c powerOn []
+-- a power cycle ends it; with nothing to finish it leaves the card as it was, and what is armed
+pub power-cycle-ends : (c : List ℕ) (s : State) → act c s powerCycle .report .state .busy ≡ 0
 power-cycle-ends = power-ends
 
--- a poll tells 1 while the card is busy, and 0 when it is ready, and changes nothing
-pub poll-tells : (c : List ℕ) (s : State) → act c s poll ≡ acted c s (cond (isBusy s) 1 0 ∷ [])
+pub power-cycle-idle : (c : List ℕ) (s : State) → isReady at88sc1608 c ≡ false → act c s powerCycle ≡ acted c (poweredUp (s .tear)) []
+power-cycle-idle = powers-up
+
+-- on a card that is on and has nothing to finish: a poll tells 1 while the card is busy, and 0 when it is ready, and changes nothing
+pub poll-tells : (c : List ℕ) (s : State) → isHalted at88sc1608 c s ≡ false → act c s poll ≡ acted c s (cond (isBusy s) 1 0 ∷ [])
 poll-tells = told
 
--- 10 ms passed, in one wait or in several, make any card ready, and change nothing else
-pub ten-ready : (m : Powered State) → m .state .busy ≤ writeTime → (ns : List ℕ) → writeTime ≤ total ns
-    → endOf (map wait ns) m ≡ powered (m .card) (timed (m .state .volatile) 0)
+-- there 10 ms passed, in one wait or in several, make any card ready, and change nothing else
+pub ten-ready : (m : Powered State) → isHalted at88sc1608 (m .card) (m .state) ≡ false → m .state .busy ≤ writeTime → (ns : List ℕ) → writeTime ≤ total ns
+    → endOf (map wait ns) m ≡ powered (m .card) (timed (m .state) (m .state .volatile) 0)
 ten-ready = all-waited

@@ -35,6 +35,6 @@ module _ (c : List ℕ) (s : State) (bytes space : List ℕ) where
   pub call-does : NoneApplies (callConditions c s bytes space)
       → (k : Instruction) × (decode bytes ≡ whole k (length bytes))
       × (command c s (calling bytes space)
-      ≡ leaving (logged (powered c s) k .kind) (triesGiven at88sc1608 s k (after (powered c s) k .card)) (after (powered c s) k)
+      ≡ leaving (logged (powered c s) k .kind) (triesGiven at88sc1608 c s k (after (powered c s) k .card)) (after (powered c s) k)
       (logged (powered c s) k .response) space)
   call-does = carries c s bytes space

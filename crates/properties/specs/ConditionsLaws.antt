@@ -87,7 +87,7 @@ made-answer : (a n : ℕ) (xs : List ℕ) (kind : ℕ) → known kind ≡ true �
 unfolding kinds made
 made-answer a n xs =
     each-kind (λ kind. fullAnswer at88sc1608 (made kind a n xs) ≡ answerOf kind n)
-    refl refl refl refl refl refl refl refl refl refl refl refl refl refl
+    refl refl refl refl refl refl refl refl refl refl refl refl refl refl refl refl
 
 pub decode-answer : (part : List ℕ) (k : Instruction) (m : ℕ) → decode part ≡ whole k m → fullAnswer at88sc1608 k ≡ responseLength part
 decode-answer part k m e =

@@ -6,7 +6,7 @@ use native.Mathlib.Nat.{le-of-suc-le-suc}
 use native.Mathlib.Omega.{arith}
 use lib.ListN.{length, length-take}
 use Rattle.model.specs.Lists.{Bytes}
-use Rattle.model.specs.Busy.{State, answeredKind}
+use Rattle.model.specs.Busy.{State}
 use Rattle.model.specs.Instruction.{Instruction}
 use Rattle.model.specs.At88sc1608.{at88sc1608}
 use Rattle.model.specs.Call.{Powered, calling, whole}
@@ -18,7 +18,7 @@ use Rattle.model.specs.Record.{recordLength, decode}
 use Rattle.laws.specs.RecordLaws.{Ranged, accepted, decode-front}
 use Rattle.laws.specs.Sane.{Good, check-good, good-after}
 use Rattle.model.specs.Session.{startOf, countOf, readFrom, all, after, logOf, initial}
-use Rattle.model.specs.Single.{check, act, command}
+use Rattle.model.specs.Single.{check, answeredKind, act, command}
 use Rattle.properties.specs.SessionConditions.{placePast}
 use Rattle.properties.specs.AcceptedSession.{Accepts, Every, instructionAt, reached, recordAt, kindIn, leaving}
 use Rattle.properties.specs.SessionLaws.{read-first}
@@ -57,7 +57,8 @@ reached-good (x ∷ ks) m (suc k) f g = reached-good ks (after m x) k (f .1) (go
 module _ (s log : List ℕ) (ks : List Instruction) (bytes : Bytes s) (a : Accepts s log ks) where
   pub one-record : (k : ℕ) → k < countOf s → (space : List ℕ) → length (answerIn (logOf s ks) (find (logOf s ks) k)) ≤ length space
       → command (reached ks (initial s) k .card) (reached ks (initial s) k .state) (calling (recordAt s (placePast k s (startOf s))) space)
-      ≡ leaving (kindIn (logOf s ks) k) (triesGiven at88sc1608 (reached ks (initial s) k .state) (instructionAt ks k) (reached ks (initial s) (suc k) .card))
+      ≡ leaving (kindIn (logOf s ks) k) (triesGiven at88sc1608 (reached ks (initial s) k .card) (reached ks (initial s) k .state) (instructionAt ks k)
+      (reached ks (initial s) (suc k) .card))
       (reached ks (initial s) (suc k)) (answerIn (logOf s ks) (find (logOf s ks) k)) space
   one-record k h space room =
       let m : Powered State = reached ks (initial s) k in

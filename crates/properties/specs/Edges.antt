@@ -1,4 +1,4 @@
--- Of the edges of a session's length: fewer than 2,185 bytes, and 2,185 without records.
+-- Of the edges of a session's length: fewer than 2,197 bytes, and 2,197 without records.
 use Prim.Native.Nat.{ℕ, _+_, _≤_, _<_}
 use mathlib.Core.Bool.{true}
 use mathlib.Core.List.{List, [], _∷_, _++_}
@@ -14,7 +14,9 @@ use Rattle.model.specs.Numbers.{bytesOf}
 use Rattle.laws.specs.NumberLaws.{number-append}
 use Rattle.model.specs.Refusal.{sessionLength}
 use Rattle.model.specs.Session.{startOf, countOf, frame, rejected, run}
-use Rattle.model.specs.Single.{isFuseByte}
+use Rattle.model.specs.Single.{isFuseByte, stagingFits}
+use Rattle.model.specs.At88sc1608.{at88sc1608}
+use Rattle.laws.specs.StagingLaws.{staging-same}
 use Rattle.properties.specs.AcceptedSession.{accepting, empty}
 use Rattle.properties.specs.AcceptedSessionLaws.{well-framed, accepted-log}
 
@@ -22,9 +24,9 @@ pub short-rejected : (s space : List ℕ) → length s < leastSession → run s 
 unfolding run frame
 short-rejected s space h = rw (lt-leb _ _ h)
 
-pub empty-log : (card space : List ℕ) → length card ≡ cardSize → isFuseByte (at card fuseAt) ≡ true → leastSession ≤ length space
+pub empty-log : (card space : List ℕ) → length card ≡ cardSize → isFuseByte (at card fuseAt) ≡ true → stagingFits card ≡ true → leastSession ≤ length space
     → run (empty card) space ≡ accepting (card ++ logTrailer zoned 0 0) space
-empty-log card space l f h =
+empty-log card space l f g h =
     accepted-log s space []
     (record {
       frames = well;
@@ -63,4 +65,5 @@ empty-log card space l f h =
           high = rw (start, long) (omega arith);
           few = rw count (omega arith);
           stage = rw (List·getD-append card tail 0 fuseAt (rw l (omega arith))) f;
+          staging = staging-same at88sc1608 card s (λ j p q. List·getD-append card tail 0 j (rw l (omega arith))) ∙ g;
         })

@@ -7,19 +7,22 @@ use mathlib.Core.Logic.{_↔_}
 use mathlib.Core.Path.{_≡_, refl, sym, ap, _∙_}
 use native.Mathlib.Omega.{arith}
 use native.Mathlib.Numerals.{add-one}
-use borrow.Author.Tests.{eqb-true}
-use lib.Dec.{eqb}
+use borrow.Author.Tests.{eqb-true, ne-eqb}
+use lib.Dec.{leb, eqb}
 use lib.ListN.{length, take, drop, length-drop, take-append-drop}
 use lib.Seq.{drop-cons, drop-drop, take-add, length-take-le, getD-take, getD-drop, take-all}
-use Rattle.model.specs.Sizes.{cardSize, fuseAt, trailerSize}
+use Rattle.model.specs.Sizes.{cardSize, fuseAt, trailerSize, leastLog}
 use Rattle.model.specs.Lists.{at, Bytes}
-use Rattle.laws.specs.BoolLaws.{and-left, and-right}
+use Rattle.laws.specs.BoolLaws.{and-left, and-right, and-false}
 use Rattle.model.specs.Numbers.{bytesOf}
 use Rattle.laws.specs.NumberLaws.{bytes-number}
-use Rattle.model.specs.Log.{Ending, ending, endingOf, Entry, headerBytes, headerLength, entryBytes, entriesBytes, logTrailer, AllFit, LaidOut}
-use Rattle.model.specs.Log.{countOf, offsetOf, lengthAt, responseAt, nextEntry, entryOk, entriesOk, trailerOk, validAs, valid}
+use Rattle.model.specs.At88sc1608.{at88sc1608}
+use Rattle.laws.specs.StagingLaws.{staging-same}
+use Rattle.model.specs.Refusal.{notALog}
+use Rattle.model.specs.Log.{Ending, zoned, Entry, headerBytes, headerLength, entryBytes, entriesBytes, logTrailer, AllFit, LaidOut}
+use Rattle.model.specs.Log.{countOf, offsetOf, lengthAt, responseAt, nextEntry, entryOk, entriesOk, trailerOk, validAs, valid, find, missing}
 use Rattle.properties.specs.LogLaws.{Entered, entered, Trailed, trailed}
-use Rattle.properties.specs.Written.{written-well, written-valid}
+use Rattle.properties.specs.Written.{written-well}
 
 -- two runs of bytes side by side
 side-by-side : (l : List ℕ) (i m n : ℕ) → take m (drop i l) ++ take n (drop (i + m) l) ≡ take (m + n) (drop i l)
@@ -160,17 +163,20 @@ module _ (E : Ending) where
             fit = all-fit (countOf l) 0 o (omega arith) entries-are;
             long = length-take-le cardSize (drop o l) (let g = length-drop o l in omega arith);
             stage = rw (getD-take cardSize (drop o l) fuseAt 0 (omega arith), getD-drop o l fuseAt 0) (t .stage);
+            staging = staging-same at88sc1608 (drop o l) cardOf (λ j p q. getD-take cardSize (drop o l) j 0 (omega arith)) ∙ t .staging;
             same =
                 sym (take-append-drop o l) ∙ ap (λ (k : List ℕ). take o l ++ k) (sym (take-append-drop cardSize (drop o l)))
                 ∙ (λ i. sym front-bytes i ++ (cardOf ++ d i));
           }
 
--- under one ending, and under the ending that the log has
+-- under any ending, and under that of every log
 pub exactly-as : (E : Ending) (l : List ℕ) → Bytes l → (validAs E l ≡ true) ↔ ((es : List Entry) × (card : List ℕ) × LaidOut E es card l)
 exactly-as E l b = (λ v. (entriesOf E l b v, cardOf E l b v, laid-out E l b v), λ w. written-well E (w .0) (w .1) l (w .2))
 
-pub exactly : (l : List ℕ) → Bytes l → (valid l ≡ true) ↔ ((z : Bool) × (es : List Entry) × (card : List ℕ) × LaidOut (ending z) es card l)
-exactly l b = (
-  λ v. let p = exactly-as (endingOf l) l b .0 v in (eqb (at l (length l - 1)) 0x50, p .0, p .1, p .2),
-  λ w. written-valid (w .0) (w .1) (w .2) l (w .3),
-)
+pub exactly : (l : List ℕ) → Bytes l → (valid l ≡ true) ↔ ((es : List Entry) × (card : List ℕ) × LaidOut zoned es card l)
+exactly = exactly-as zoned
+
+-- no other last byte is taken
+pub ending-other : (l : List ℕ) (k : ℕ) → (at l (length l - 1) ≡ 0x50 → ⊥) → find l k ≡ missing notALog
+unfolding find validAs trailerOk
+ending-other l k ne = rw (ne-eqb (at l (length l - 1)) 0x50 ne, and-false (eqb (at l (length l - 2)) 0x4C), and-false (leb leastLog (length l)))

@@ -7,6 +7,7 @@ pub mod CallConditions
 pub mod AcceptedSession
 pub mod SessionSecret
 pub mod WriterConditions
+pub mod Survival
 pub mod SessionParts
 -- the final statements
 pub mod SessionAcceptance
@@ -20,6 +21,7 @@ pub mod PasswordWords
 pub mod BusyTimes
 pub mod SessionSecrecy
 pub mod SessionWriting
+pub mod StagedWrites
 -- what proves them: of sessions and of refusals
 pub mod SessionLaws
 pub mod AcceptedSessionLaws
@@ -42,4 +44,5 @@ pub mod Alike
 pub mod SessionSecrecyLaws
 -- of the session writer
 pub mod WriterConditionsLaws
+pub mod SurvivalLaws
 pub mod SessionPartsLaws

@@ -7,16 +7,16 @@ use native.Mathlib.Nat.{le-of-suc-le-suc}
 use native.Mathlib.Omega.{arith}
 use borrow.Author.Tests.{ltb-true, leb-true, eqb-true, le-leb, eq-eqb}
 use lib.Dec.{ltb, leb, eqb}
-use lib.ListN.{length}
+use lib.ListN.{length, drop}
 use Rattle.model.specs.Sizes.{fuseAt, leastLog, mostRecords}
 use Rattle.model.specs.Lists.{at}
 use Rattle.laws.specs.BoolLaws.{and-left, and-right}
-use Rattle.model.specs.Log.{Ending, ending, endingOf, entryFits, zoneFits, lengthAt, responseAt, nextEntry, entryOk, entriesOk, entryPlace}
+use Rattle.model.specs.Log.{Ending, zoned, entryFits, zoneFits, lengthAt, responseAt, nextEntry, entryOk, entriesOk, entryPlace}
 use Rattle.model.specs.Log.{countOf, offsetOf, trailerOk, validAs, valid, placeOf, find, located, missing}
 use Rattle.model.specs.Refusal.{notALog, noSuchAnswer}
-use Rattle.model.specs.Single.{isFuseByte}
+use Rattle.model.specs.Single.{isFuseByte, stagingFits}
 
--- ---- under either ending
+-- ---- under any ending
 
 module _ (E : Ending) where
   -- an entry that is well
@@ -52,6 +52,7 @@ module _ (E : Ending) where
     pub few : countOf l ≤ mostRecords
     pub meets : offsetOf l + leastLog ≡ length l
     pub stage : isFuseByte (at l (offsetOf l + fuseAt)) ≡ true
+    pub staging : stagingFits (drop (offsetOf l) l) ≡ true
 
   pub trailed : (l : List ℕ) → trailerOk E l ≡ true → Trailed l
   unfolding trailerOk
@@ -66,7 +67,8 @@ module _ (E : Ending) where
         second = eqb-true _ _ (and-left (eqb (at l (length l - 1)) (E .last)) _ p₂);
         few = leb-true _ _ (and-left (leb (countOf l) mostRecords) _ p₃);
         meets = eqb-true _ _ (and-left (eqb (offsetOf l + leastLog) (length l)) _ p₄);
-        stage = and-right (eqb (offsetOf l + leastLog) (length l)) _ p₄;
+        stage = and-left (isFuseByte (at l (offsetOf l + fuseAt))) _ (and-right (eqb (offsetOf l + leastLog) (length l)) _ p₄);
+        staging = and-right (isFuseByte (at l (offsetOf l + fuseAt))) _ (and-right (eqb (offsetOf l + leastLog) (length l)) _ p₄);
       }
 
   -- and both the other way round
@@ -76,20 +78,24 @@ module _ (E : Ending) where
 
   pub trailer-well : (l : List ℕ) → Trailed l → trailerOk E l ≡ true
   unfolding trailerOk
-  trailer-well l w = rw (le-leb _ _ (w .long), eq-eqb _ _ (w .first), eq-eqb _ _ (w .second), le-leb _ _ (w .few), eq-eqb _ _ (w .meets), w .stage)
+  trailer-well l w =
+      rw (
+        le-leb _ _ (w .long),
+        eq-eqb _ _ (w .first),
+        eq-eqb _ _ (w .second),
+        le-leb _ _ (w .few),
+        eq-eqb _ _ (w .meets),
+        w .stage,
+        w .staging,
+      )
 
--- ---- each log under its own
-
--- its last byte says which of the two it is
-pub ending-is : (z : Bool) (l : List ℕ) → at l (length l - 1) ≡ ending z .last → endingOf l ≡ ending z
-ending-is true l e = rw (eq-eqb _ _ e)
-ending-is false l e = rw e
+-- ---- under the ending of every log
 
 -- an answer that was found
 pub record Answered (l : List ℕ) (k from n : ℕ) : Type 0 where
   pub accepted : valid l ≡ true
   pub counted : k < countOf l
-  pub start : from ≡ responseAt (endingOf l) l (placeOf l k)
+  pub start : from ≡ responseAt zoned l (placeOf l k)
   pub size : n ≡ lengthAt l (placeOf l k)
 
 pub answered : (l : List ℕ) (k from n : ℕ) → find l k ≡ located from n → Answered l k from n
@@ -97,7 +103,7 @@ unfolding find
 answered l k from n e = go (valid l) (ltb k (countOf l)) refl refl e
   where
     go : (v u : Bool) → valid l ≡ v → ltb k (countOf l) ≡ u
-        → cond (not v) (missing notALog) (cond (not u) (missing noSuchAnswer) (located (responseAt (endingOf l) l (placeOf l k)) (lengthAt l (placeOf l k))))
+        → cond (not v) (missing notALog) (cond (not u) (missing noSuchAnswer) (located (responseAt zoned l (placeOf l k)) (lengthAt l (placeOf l k))))
         ≡ located from n → Answered l k from n
     go true true p q e = record { accepted = p; counted = ltb-true _ _ q; start = cc; size = cc }
     go true false p q e = absurd (let z : _≡_ {A = ℕ} 0 1 = cc in let w : ⊥ = omega arith in w)
@@ -107,7 +113,7 @@ answered l k from n e = go (valid l) (ltb k (countOf l)) refl refl e
 pub answer-within : (l : List ℕ) (k from n : ℕ) → find l k ≡ located from n → from + n ≤ length l
 unfolding validAs
 answer-within l k from n e =
-    let E : Ending = endingOf l in
+    let E : Ending = zoned in
     let a = answered l k from n e in
     let t = trailed E l (and-left (trailerOk E l) _ (a .accepted)) in
     let w = entry-ends E (countOf l) l 0 (offsetOf l) (and-right (trailerOk E l) _ (a .accepted)) k (a .counted) in

@@ -1,54 +1,58 @@
--- The log reader accepts exactly the paper's two layouts, each by its ending, and the log of an accepted session reads back: every
+-- The log reader accepts exactly the paper's layout, and the log of an accepted session reads back: every
 -- answer that was written, its kind and its zone, and the final card ("Session and log", "The zone named in the log").
-use Prim.Native.Nat.{ℕ, _≤_, _<_}
-use mathlib.Core.Bool.{Bool, true}
+use Prim.Native.Nat.{ℕ, _-_, _≤_, _<_}
+use mathlib.Core.Bool.{true}
 use mathlib.Core.List.{List}
 use mathlib.Core.Logic.{_↔_}
 use mathlib.Core.Path.{_≡_}
 use lib.ListN.{length, take, drop}
 use Rattle.model.specs.Sizes.{cardSize}
-use Rattle.model.specs.Lists.{Bytes}
+use Rattle.model.specs.Lists.{at, Bytes}
 use Rattle.model.specs.At88sc1608.{at88sc1608}
-use Rattle.model.specs.Busy.{State, answeredKind}
+use Rattle.model.specs.Busy.{State}
 use Rattle.model.specs.Call.{Powered}
 use Rattle.model.specs.Instruction.{Instruction, kindOf}
 use Rattle.laws.specs.EntryLaws.{answered-names, named-keeps}
-use Rattle.model.specs.Log.{Ending, ending, endingOf, zoned, namesZone, Entry, entryBytes, Fits, LaidOut, validAs, valid, find, missing, answerIn}
+use Rattle.model.specs.Log.{Ending, zoned, namesZone, Entry, entryBytes, Fits, LaidOut, validAs, valid, find, missing, answerIn}
 use Rattle.model.specs.Log as log
-use Rattle.model.specs.Refusal.{noSuchAnswer}
+use Rattle.model.specs.Refusal.{notALog, noSuchAnswer}
+use Rattle.model.specs.Single.{answeredKind}
 use Rattle.model.specs.Session.{countOf, logged, after, endOf, initial, logOf}
 use Rattle.properties.specs.AcceptedSession.{Accepts, instructionAt, reached, kindIn, zoneIn, entryOf}
 use Rattle.properties.specs.Written.{entry-most, written-answer, written-kind, written-zone}
-use Rattle.properties.specs.Layout.{exactly-as, exactly}
+use Rattle.properties.specs.Layout.{exactly-as, exactly, ending-other}
 use Rattle.properties.specs.ReadBack.{ending-back, valid-back, count-back, kind-back, zone-back, answer-back, none-back, card-back}
 
--- a log of bytes is accepted exactly when it is the writing, with one of the two endings, of some entries within the limits, a card and
--- the trailer
-pub accepted-iff : (l : List ℕ) → Bytes l → (valid l ≡ true) ↔ ((z : Bool) × (es : List Entry) × (card : List ℕ) × LaidOut (ending z) es card l)
+-- a log of bytes is accepted exactly when it is the writing of some entries within the limits, a card and the trailer
+pub accepted-iff : (l : List ℕ) → Bytes l → (valid l ≡ true) ↔ ((es : List Entry) × (card : List ℕ) × LaidOut zoned es card l)
 accepted-iff = exactly
 
--- and so under each ending by itself
+-- and so under any ending
 pub accepted-as-iff : (E : Ending) (l : List ℕ) → Bytes l → (validAs E l ≡ true) ↔ ((es : List Entry) × (card : List ℕ) × LaidOut E es card l)
 accepted-as-iff = exactly-as
+
+-- whatever ends in another byte than $50 gets 13
+pub other-ending : (l : List ℕ) (k : ℕ) → (at l (length l - 1) ≡ 0x50 → ⊥) → find l k ≡ missing notALog
+other-ending = ending-other
 
 -- an entry within the limits has at most 260 bytes
 pub entry-at-most : (E : Ending) (e : Entry) → Fits E e → length (entryBytes E e) ≤ 260
 entry-at-most = entry-most
 
--- of a log that is laid out so, with either ending: answer k is the response of entry k, and its kind and its zone, where it is named,
+-- of a log that is laid out so: answer k is the response of entry k, and its kind and its zone, where it is named,
 -- are those of entry k
-module _ (z : Bool) (es : List Entry) (card l : List ℕ) (w : LaidOut (ending z) es card l) (k : ℕ) (h : k < length es) where
+module _ (es : List Entry) (card l : List ℕ) (w : LaidOut zoned es card l) (k : ℕ) (h : k < length es) where
   pub laid-answer : answerIn l (find l k) ≡ entryOf es k .response
-  laid-answer = written-answer z es card l w k h
+  laid-answer = written-answer es card l w k h
 
   pub laid-kind : kindIn l k ≡ entryOf es k .kind
-  laid-kind = written-kind z es card l w k h
+  laid-kind = written-kind es card l w k h
 
-  pub laid-zone : ending z .names (entryOf es k .kind) ≡ true → zoneIn l k ≡ entryOf es k .zone
-  laid-zone = written-zone z es card l w k h
+  pub laid-zone : zoned .names (entryOf es k .kind) ≡ true → zoneIn l k ≡ entryOf es k .zone
+  laid-zone = written-zone es card l w k h
 
 -- a record names the zone by its own kind, ignored or not, and leaves it selected, so the zone before it is the zone after it
-pub names-either-way : (s : State) (k : Instruction) → namesZone (answeredKind s k) ≡ namesZone (kindOf k)
+pub names-either-way : (c : List ℕ) (s : State) (k : Instruction) → namesZone (answeredKind c s k) ≡ namesZone (kindOf k)
 names-either-way = answered-names
 
 pub zone-stays : (m : Powered State) (k : Instruction) → namesZone (kindOf k) ≡ true → after m k .state .volatile .zone ≡ m .state .volatile .zone
@@ -56,8 +60,8 @@ zone-stays m k = named-keeps at88sc1608 (m .card) (m .state) k
 
 -- a session of bytes that is accepted with the instructions ks
 module _ (s space : List ℕ) (ks : List Instruction) (bytes : Bytes s) (a : Accepts s space ks) where
-  -- its log has the ending under which zones are named
-  pub log-ending : endingOf (logOf s ks) ≡ zoned
+  -- its log ends in $50
+  pub log-ending : at (logOf s ks) (length (logOf s ks) - 1) ≡ 0x50
   log-ending = ending-back s space ks bytes a
 
   -- it is accepted

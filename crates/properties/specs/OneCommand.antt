@@ -22,6 +22,7 @@ module _ (s log : List ℕ) (ks : List Instruction) (bytes : Bytes s) (a : Accep
   -- k + 1. What it hands out are the tries left on that card, of the counter that record k used, and 0 where a busy card ignored it.
   pub single : (k : ℕ) → k < countOf s → (space : List ℕ) → length (answerIn (logOf s ks) (find (logOf s ks) k)) ≤ length space
       → command (reached ks (initial s) k .card) (reached ks (initial s) k .state) (calling (recordAt s (placePast k s (startOf s))) space)
-      ≡ leaving (kindIn (logOf s ks) k) (triesGiven at88sc1608 (reached ks (initial s) k .state) (instructionAt ks k) (reached ks (initial s) (suc k) .card))
+      ≡ leaving (kindIn (logOf s ks) k) (triesGiven at88sc1608 (reached ks (initial s) k .card) (reached ks (initial s) k .state) (instructionAt ks k)
+      (reached ks (initial s) (suc k) .card))
       (reached ks (initial s) (suc k)) (answerIn (logOf s ks) (find (logOf s ks) k)) space
   single = one-record s log ks bytes a

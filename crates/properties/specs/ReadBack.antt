@@ -14,7 +14,7 @@ use Rattle.model.specs.Lists.{at, Bytes}
 use Rattle.model.specs.Busy.{State}
 use Rattle.model.specs.Instruction.{Instruction}
 use Rattle.model.specs.Call.{Powered}
-use Rattle.model.specs.Log.{endingOf, zoned, namesZone, Entry, LaidOut, valid, find, missing, answerIn}
+use Rattle.model.specs.Log.{zoned, namesZone, Entry, LaidOut, valid, find, missing, answerIn}
 use Rattle.model.specs.Log as log
 use Rattle.model.specs.Reader.{recordsEnd, partAt}
 use Rattle.laws.specs.RecordLaws.{Ranged, decode-ranged}
@@ -76,14 +76,15 @@ module _ (s space : List ℕ) (ks : List Instruction) (bytes : Bytes s) (a : Acc
         fit = entries-fit ks (initial s) (all-logs .every) (all-ranged .every) (card-good s framed);
         long = final-good .fit .long;
         stage = final-good .fit .stage;
+        staging = final-good .fit .staging;
         same = refl;
       }
 
-  pub ending-back : endingOf (logOf s ks) ≡ zoned
-  ending-back = written-ending true es card (logOf s ks) laid-out
+  pub ending-back : at (logOf s ks) (length (logOf s ks) - 1) ≡ 0x50
+  ending-back = written-ending es card (logOf s ks) laid-out
 
   pub valid-back : valid (logOf s ks) ≡ true
-  valid-back = written-valid true es card (logOf s ks) laid-out
+  valid-back = written-valid es card (logOf s ks) laid-out
 
   pub count-back : log.countOf (logOf s ks) ≡ countOf s
   count-back = count-is zoned es card (logOf s ks) laid-out ∙ entries-length ks (initial s) ∙ all-ranged .number
@@ -97,18 +98,18 @@ module _ (s space : List ℕ) (ks : List Instruction) (bytes : Bytes s) (a : Acc
     entry-back = entry-is ks (initial s) k (rw (all-ranged .number) h)
 
     pub answer-back : answerIn (logOf s ks) (find (logOf s ks) k) ≡ logged (reached ks (initial s) k) (instructionAt ks k) .response
-    answer-back = written-answer true es card (logOf s ks) laid-out k counted ∙ ap (λ (e : Entry). e .response) entry-back
+    answer-back = written-answer es card (logOf s ks) laid-out k counted ∙ ap (λ (e : Entry). e .response) entry-back
 
     pub kind-back : kindIn (logOf s ks) k ≡ logged (reached ks (initial s) k) (instructionAt ks k) .kind
-    kind-back = written-kind true es card (logOf s ks) laid-out k counted ∙ ap (λ (e : Entry). e .kind) entry-back
+    kind-back = written-kind es card (logOf s ks) laid-out k counted ∙ ap (λ (e : Entry). e .kind) entry-back
 
     pub zone-back : namesZone (kindIn (logOf s ks) k) ≡ true → zoneIn (logOf s ks) k ≡ reached ks (initial s) k .state .volatile .zone
     zone-back n =
-        written-zone true es card (logOf s ks) laid-out k counted (rw (← (written-kind true es card (logOf s ks) laid-out k counted)) n)
+        written-zone es card (logOf s ks) laid-out k counted (rw (← (written-kind es card (logOf s ks) laid-out k counted)) n)
         ∙ ap (λ (e : Entry). e .zone) entry-back
 
   pub none-back : (k : ℕ) → countOf s ≤ k → find (logOf s ks) k ≡ missing noSuchAnswer
-  none-back k h = written-none true es card (logOf s ks) laid-out k (rw (entries-length ks (initial s), all-ranged .number) h)
+  none-back k h = written-none es card (logOf s ks) laid-out k (rw (entries-length ks (initial s), all-ranged .number) h)
 
   pub card-back : take cardSize (drop (log.offsetOf (logOf s ks)) (logOf s ks)) ≡ endOf ks (initial s) .card
   card-back = written-card zoned es card (logOf s ks) laid-out

@@ -12,7 +12,7 @@ use Rattle.model.specs.Instruction.{Instruction}
 use Rattle.model.specs.Log.{zoned, logTrailer}
 use Rattle.model.specs.Refusal.{sessionLength}
 use Rattle.model.specs.Session.{logOf, rejected, run}
-use Rattle.model.specs.Single.{isFuseByte}
+use Rattle.model.specs.Single.{isFuseByte, stagingFits}
 use Rattle.properties.specs.Conditions.{first, NoneApplies}
 use Rattle.properties.specs.SessionConditions.{sessionConditions}
 use Rattle.properties.specs.AcceptedSession.{Accepts, accepting, empty}
@@ -42,7 +42,8 @@ module _ (s space : List ℕ) where
   pub short : length s < leastSession → run s space ≡ rejected sessionLength space
   short = short-rejected s space
 
--- a card and a trailer that counts no records log the card and a trailer that counts no answers
-pub nothing-run : (card space : List ℕ) → length card ≡ cardSize → isFuseByte (at card fuseAt) ≡ true → leastSession ≤ length space
+-- a card that is well and a trailer that counts no records log the card and a trailer that counts no answers
+pub nothing-run : (card space : List ℕ) → length card ≡ cardSize → isFuseByte (at card fuseAt) ≡ true → stagingFits card ≡ true
+    → leastSession ≤ length space
     → run (empty card) space ≡ accepting (card ++ logTrailer zoned 0 0) space
 nothing-run = empty-log

@@ -10,11 +10,11 @@ use Rattle.model.specs.Lists.{at}
 use Rattle.model.specs.Log.{zoned, headerLength}
 use Rattle.model.specs.Reader.{recordsEnd, partAt}
 use Rattle.model.specs.Record.{recordLength}
-use Rattle.model.specs.Refusal.{sessionLength, sessionTrailer, startOutOfRange, tooManyRecords, fuseByte, bytesLeft, noSpace}
-use Rattle.model.specs.Session.{startOf, countOf, wrongLength, wrongTrailer, wrongStart, wrongCount, wrongFuses}
+use Rattle.model.specs.Refusal.{sessionLength, sessionTrailer, startOutOfRange, tooManyRecords, fuseByte, stagingBytes, bytesLeft, noSpace}
+use Rattle.model.specs.Session.{startOf, countOf, wrongLength, wrongTrailer, wrongStart, wrongCount, wrongFuses, wrongStaging}
 use Rattle.properties.specs.Conditions.{Condition, when, recordConditions, responseLength}
 
--- 1 to 5
+-- 1 to 5 and 16
 abbrev pub frameConditions : List ℕ → List Condition
 frameConditions s =
     when sessionLength (wrongLength s)
@@ -22,6 +22,7 @@ frameConditions s =
     ∷ when startOutOfRange (wrongStart s)
     ∷ when tooManyRecords (wrongCount s)
     ∷ when fuseByte (wrongFuses s)
+    ∷ when stagingBytes (wrongStaging s)
     ∷ []
 
 -- the place past n records from a place on: each begins where the one before it ends
@@ -50,6 +51,6 @@ lastConditions s space =
     ∷ when noSpace (ltb (length space) (logLength s))
     ∷ []
 
--- 1 to 5, the records in turn, 9, 10
+-- 1 to 5, 16, the records in turn, 9, 10
 abbrev pub sessionConditions : List ℕ → List ℕ → List Condition
 sessionConditions s space = frameConditions s ++ (recordsConditions (countOf s) s (startOf s) ++ lastConditions s space)

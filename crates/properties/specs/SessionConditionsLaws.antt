@@ -14,7 +14,7 @@ use Rattle.model.specs.Reader.{recordsEnd, partAt, nextOf}
 use Rattle.model.specs.Record.{recordLength}
 use Rattle.laws.specs.RecordLaws.{accepted, decode-kind}
 use Rattle.model.specs.Refusal.{bytesLeft, noSpace}
-use Rattle.model.specs.Session.{startOf, countOf, wrongLength, wrongTrailer, wrongStart, wrongCount, wrongFuses, frame, framed, run}
+use Rattle.model.specs.Session.{startOf, countOf, wrongLength, wrongTrailer, wrongStart, wrongCount, wrongFuses, wrongStaging, frame, framed, run}
 use Rattle.model.specs.Session.{Read, stopped, all, onDecoded, more, readFrom, logOf, fullEntries, rejected, ended, initial}
 use Rattle.properties.specs.SessionLaws.{read-first, read-none, fullTotal, full-total}
 use Rattle.properties.specs.Conditions.{recordConditions, first}
@@ -68,14 +68,15 @@ first-stopped (suc n) s i r e d =
 
 -- ---- the session
 
-past-frame : (s space : List ℕ) (a b c d e : Bool) → framed s space (cond a 1 (cond b 2 (cond c 3 (cond d 4 (cond e 5 0))))) .refusal
-    ≡ cond a 1 (cond b 2 (cond c 3 (cond d 4 (cond e 5 (framed s space 0 .refusal)))))
-past-frame s space true b c d e = refl
-past-frame s space false true c d e = refl
-past-frame s space false false true d e = refl
-past-frame s space false false false true e = refl
-past-frame s space false false false false true = refl
-past-frame s space false false false false false = refl
+past-frame : (s space : List ℕ) (a b c d e f : Bool) → framed s space (cond a 1 (cond b 2 (cond c 3 (cond d 4 (cond e 5 (cond f 16 0)))))) .refusal
+    ≡ cond a 1 (cond b 2 (cond c 3 (cond d 4 (cond e 5 (cond f 16 (framed s space 0 .refusal))))))
+past-frame s space true b c d e f = refl
+past-frame s space false true c d e f = refl
+past-frame s space false false true d e f = refl
+past-frame s space false false false true e f = refl
+past-frame s space false false false false true f = refl
+past-frame s space false false false false false true = refl
+past-frame s space false false false false false false = refl
 
 pub full-length : (s : List ℕ) (ks : List Instruction) (j : ℕ) → readFrom (countOf s) s (startOf s) ≡ all ks j
     → fullEntries ks (initial s) + leastLog ≡ logLength s
@@ -100,13 +101,13 @@ past-records s space (all ks j) e =
 pub refusal-first : (s space : List ℕ) → run s space .refusal ≡ first (sessionConditions s space) 0
 unfolding run frame
 refusal-first s space =
-    past-frame s space (wrongLength s) (wrongTrailer s) (wrongStart s) (wrongCount s) (wrongFuses s)
+    past-frame s space (wrongLength s) (wrongTrailer s) (wrongStart s) (wrongCount s) (wrongFuses s) (wrongStaging s)
     ∙ ap (λ (n : ℕ). cond (wrongLength s) 1 (rest n))
     (past-records s space (readFrom (countOf s) s (startOf s)) refl
     ∙ sym (first-append (recordsConditions (countOf s) s (startOf s)) (lastConditions s space) 0))
   where
     rest : ℕ → ℕ
-    rest n = cond (wrongTrailer s) 2 (cond (wrongStart s) 3 (cond (wrongCount s) 4 (cond (wrongFuses s) 5 n)))
+    rest n = cond (wrongTrailer s) 2 (cond (wrongStart s) 3 (cond (wrongCount s) 4 (cond (wrongFuses s) 5 (cond (wrongStaging s) 16 n))))
 
 records-numbered : (n : ℕ) (s : List ℕ) (i : ℕ) → Numbered (recordsConditions n s i)
 records-numbered zero s i = tt
@@ -115,7 +116,7 @@ records-numbered (suc n) s i =
     (record-numbered (partAt s i)) (records-numbered n s (i + recordLength (partAt s i)))
 
 pub session-numbered : (s space : List ℕ) → Numbered (sessionConditions s space)
-session-numbered s space = (some _, (some _, (some _, (some _, (some _, others)))))
+session-numbered s space = (some _, (some _, (some _, (some _, (some _, (some _, others))))))
   where
     others : Numbered (recordsConditions (countOf s) s (startOf s) ++ lastConditions s space)
     others =

@@ -9,11 +9,11 @@ use lib.Dec.{ltb, leb, eqb}
 use lib.ListN.{length, take, drop, length-append}
 use Rattle.model.specs.Lists.{at, Bytes}
 use Rattle.laws.specs.BoolLaws.{and-left, and-right}
-use Rattle.model.specs.Busy.{State, isBusy, actsAlways, ignores, answeredKind}
+use Rattle.model.specs.Busy.{State, ignores}
 use Rattle.model.specs.Instruction.{Instruction, kindOf}
 use Rattle.model.specs.Call.{Powered, Decoded, refused, whole}
 use Rattle.model.specs.At88sc1608.{at88sc1608}
-use Rattle.laws.specs.BusyLaws.{fullAnswer, full-answer, givenAnswer, given-answer, given-most}
+use Rattle.laws.specs.BusyLaws.{fullAnswer, full-answer, givenAnswer, given-answer, given-most, ignored-acts}
 use Rattle.laws.specs.EntryLaws.{fullEntry, answered-header}
 use Rattle.model.specs.Log.{zoned, namesZone, headerLength, entryBytes, entriesBytes, entryFits, zoneFits, AllFit}
 use Rattle.model.specs.Reader.{recordsEnd, nextOf}
@@ -22,6 +22,7 @@ use Rattle.model.specs.Record.{kinds, known, inRange, dataLength, made, dataAt,
 use Rattle.laws.specs.KindLaws.{each-kind}
 use Rattle.laws.specs.RecordLaws.{accepted, Ranged}
 use Rattle.laws.specs.Sane.{Good, act-length, good-after, zone-below}
+use Rattle.model.specs.Single.{answeredKind}
 use Rattle.model.specs.Session.{Read, stopped, all, onDecoded, more, readFrom, logged, after, entriesOf, endOf, fullEntries}
 use Rattle.properties.specs.AcceptedSession.{Every}
 use Rattle.properties.specs.Written.{length-entry}
@@ -66,6 +67,8 @@ made-logs a n xs h =
     (λ r. (refl, refl))
     (λ r. (refl, refl))
     (λ r. (refl, refl))
+    (λ r. (refl, refl))
+    (λ r. (refl, refl))
   where
     read-configuration-count : (leb a 127 && (leb 1 n && leb (a + n) 128)) ≡ true → (leb 1 n && leb n 128) ≡ true
     read-configuration-count r =
@@ -88,16 +91,16 @@ or-true : (t : Bool) → (t || true) ≡ true
 or-true true = refl
 or-true false = refl
 
-logged-fits : (s : State) (k : Instruction) → Logs k → entryFits (answeredKind s k) (givenAnswer at88sc1608 s k) ≡ true
+logged-fits : (c : List ℕ) (s : State) (k : Instruction) → Logs k → entryFits (answeredKind c s k) (givenAnswer at88sc1608 c s k) ≡ true
 unfolding entryFits
-logged-fits s k l = go (ignores s k) refl
+logged-fits c s k l = go (ignores at88sc1608 c s k) refl
   where
     marked : kindOf k + 128 - 128 ≡ kindOf k
     marked = omega arith
 
-    go : (t : Bool) → ignores s k ≡ t → entryFits (cond t (kindOf k + 128) (kindOf k)) (cond t 0 (fullAnswer at88sc1608 k)) ≡ true
+    go : (t : Bool) → ignores at88sc1608 c s k ≡ t → entryFits (cond t (kindOf k + 128) (kindOf k)) (cond t 0 (fullAnswer at88sc1608 k)) ≡ true
     go true e =
-        rw (le-leb 128 (kindOf k + 128) (omega arith), marked, l .0, and-right (isBusy s) (not (actsAlways (kindOf k))) e)
+        rw (le-leb 128 (kindOf k + 128) (omega arith), marked, l .0, ignored-acts at88sc1608 c s k e)
         (or-true (known (kindOf k + 128) && lengthFits (kindOf k + 128) 0))
     go false e = rw (l .0, l .1)
 
@@ -172,8 +175,8 @@ pub entries-fit : (ks : List Instruction) (m : Powered State) → Every Logs ks 
 entries-fit [] m f r g = tt
 entries-fit (k ∷ ks) m f r g = (
   record {
-    response-fits = rw (given-answer at88sc1608 (m .card) (m .state) k) (logged-fits (m .state) k (f .0));
-    zone-fits = selected-fits (answeredKind (m .state) k) (m .state .volatile .zone) (zone-below (m .card) (m .state) g);
+    response-fits = rw (given-answer at88sc1608 (m .card) (m .state) k) (logged-fits (m .card) (m .state) k (f .0));
+    zone-fits = selected-fits (answeredKind (m .card) (m .state) k) (m .state .volatile .zone) (zone-below (m .card) (m .state) g);
   },
   entries-fit ks (after m k) (f .1) (r .1) (good-after (m .card) (m .state) k (r .0) g),
 )
@@ -186,9 +189,9 @@ end-length (k ∷ ks) m = end-length ks (after m k) ∙ act-length (m .card) (m 
 
 -- an entry is as long as its header, which ignoring does not change, and its instruction's answer
 pub entry-length : (m : Powered State) (k : Instruction)
-    → length (entryBytes zoned (logged m k)) ≡ headerLength zoned (kindOf k) + givenAnswer at88sc1608 (m .state) k
+    → length (entryBytes zoned (logged m k)) ≡ headerLength zoned (kindOf k) + givenAnswer at88sc1608 (m .card) (m .state) k
 entry-length m k =
-    length-entry zoned (logged m k) ∙ (λ i. answered-header (m .state) k i + given-answer at88sc1608 (m .card) (m .state) k i)
+    length-entry zoned (logged m k) ∙ (λ i. answered-header (m .card) (m .state) k i + given-answer at88sc1608 (m .card) (m .state) k i)
 
 -- the entries in full: their length depends on the instructions alone, and those that are written are not longer
 abbrev pub fullTotal : List Instruction → ℕ
@@ -204,6 +207,6 @@ entries-most [] m = omega arith
 entries-most (k ∷ ks) m =
     let a = length-append (entryBytes zoned (logged m k)) (entriesBytes zoned (entriesOf ks (after m k))) in
     let e = entry-length m k in
-    let g = given-most at88sc1608 (m .state) k in
+    let g = given-most at88sc1608 (m .card) (m .state) k in
     let r = entries-most ks (after m k) in
     omega arith

@@ -8,6 +8,8 @@ use borrow.Author.Tests.{eqb-true, eq-eqb}
 use lib.Dec.{ltb, eqb}
 use lib.ListN.{length, take, drop, length-append, List·getD-append}
 use lib.Seq.{getD-append-add, take-append-seam, drop-append-seam, drop-append-add, take-at, drop-at}
+use Rattle.model.specs.At88sc1608.{at88sc1608}
+use Rattle.laws.specs.StagingLaws.{staging-same}
 use Rattle.model.specs.Sizes.{cardSize, fuseAt, trailerSize, leastLog}
 use Rattle.model.specs.Lists.{at}
 use Rattle.model.specs.Numbers.{bytesOf, numberAt}
@@ -160,6 +162,9 @@ module _ (p : Parts) (w : Writable p) where
         high = rw start-is (let l = session-length p in omega arith);
         few = rw count-is (w .few);
         stage = rw (List·getD-append (p .card) (p .title ++ (p .records ++ tail)) 0 fuseAt (let c = w .long in omega arith)) (w .stage);
+        staging =
+            staging-same at88sc1608 (p .card) s
+            (λ j l h. List·getD-append (p .card) (p .title ++ (p .records ++ tail)) 0 j (let c = w .long in omega arith)) ∙ w .staging;
       })
 
   session-read : (ks : List Instruction) × (readFrom (countOf s) s (startOf s) ≡ all ks (recordsEnd (length s)))

@@ -1,7 +1,7 @@
 -- Of two sessions that agree outside secret places of their cards: from demand 3 of lists of calls, their runs are alike.
 use Prim.Native.Nat.{ℕ, zero, suc, _+_, _-_, _≤_, _<_, min}
 use mathlib.Core.Bool.{Bool, true, false, cond, not, _&&_}
-use mathlib.Core.List.{List, _++_, append-assoc}
+use mathlib.Core.List.{List, [], _∷_, _++_, append-assoc}
 use mathlib.Core.Path.{_≡_, refl, sym, ap, subst, _∙_}
 use native.Mathlib.Omega.{arith}
 use borrow.Author.Tests.{ltb-true, ltb-false, leb-true, leb-false, le-leb, eqb-true}
@@ -15,20 +15,25 @@ use Rattle.model.specs.Instruction.{Instruction}
 use Rattle.model.specs.Device.{counterPlace}
 use Rattle.model.specs.At88sc1608.{at88sc1608}
 use Rattle.model.specs.Access.{rpe, ate, passwordSet}
-use Rattle.model.specs.Call.{Call}
+use Rattle.model.specs.Call.{Call, Powered}
+use Rattle.model.specs.Record.{decode}
+use Rattle.model.specs.Staging.{untorn}
+use Rattle.model.specs.Busy.{State}
 use Rattle.model.specs.Log.{Entry, zoned, entriesBytes, logTrailer, logBytes}
 use Rattle.model.specs.Reader.{recordsEnd}
 use Rattle.model.specs.Refusal.{bytesLeft, noSpace}
-use Rattle.model.specs.Session.{cardOf, startOf, countOf, frame, Read, stopped, all, instructionsIn, readFrom, entriesOf, endOf, logOf, fullEntries, initial}
-use Rattle.model.specs.Session.{rejected, written, ended, framed, run}
-use Rattle.model.specs.Single.{replies, final}
-use Rattle.secrecy.specs.Secret.{Sealed, register, inZone, inZoneOrPasswords, AgreeOutside}
-use Rattle.secrecy.specs.Secret.{PresentsNeither, AcceptsNot, OnCommand, Throughout, Indistinguishable}
+use Rattle.model.specs.Session.{cardOf, startOf, countOf, frame, Read, stopped, all, instructionsIn, readFrom, after, entriesOf, endOf, logOf, fullEntries}
+use Rattle.model.specs.Session.{initial, rejected, written, ended, framed, run}
+use Rattle.model.specs.Single.{check, answeredKind, act, replies, final}
+use Rattle.secrecy.specs.Along.{Along}
+use Rattle.secrecy.specs.Secret.{Sealed, Idle, register, inZone, inZoneOrPasswords, orStaged, AgreeOutside}
+use Rattle.secrecy.specs.Secret.{PresentsNeither, AcceptsNot, OnCommand, Indistinguishable}
 use Rattle.secrecy.specs.ReadPassword as read
 use Rattle.secrecy.specs.Authentication as authentication
 use Rattle.secrecy.specs.CardSecrecy as calls
-use Rattle.properties.specs.AcceptedSession.{Accepts, accepting}
-use Rattle.properties.specs.SessionSecret.{inFinalCard, RunAlike, triesIn, statesIn, RecordsAlike, SessionsAlike, EveryRecord}
+use Rattle.properties.specs.AcceptedSession.{Accepts, Every, accepting}
+use Rattle.properties.specs.SessionSecret.{inFinalCard, RunAlike, triesIn, statesIn, RecordsAlike, SessionsAlike, EveryAlong, EveryRecord}
+use Rattle.properties.specs.SessionSecret.{EveryElsewhere}
 use Rattle.properties.specs.SessionLaws.{end-length, full-total}
 use Rattle.properties.specs.AcceptedSessionLaws.{framed-well, card-good}
 use Rattle.properties.specs.AsCalls.{callsFrom, entriesFrom, triesFrom, statesFrom, Same, as-calls}
@@ -128,8 +133,9 @@ accepted-alike hidden es₁ es₂ c₁ c₂ space e l a =
         }
 
 module _ (hidden : ℕ → Bool) (in-card : (i : ℕ) → fuseAt ≤ i → hidden i ≡ false) (s₁ s₂ : List ℕ) (agree : AgreeOutside hidden s₁ s₂)
-    (Ok : Command → Type 0) (claim : (xs : List Call) → Throughout Ok xs (cardOf s₁) → Indistinguishable hidden xs (cardOf s₁) (cardOf s₂))
-    (space : List ℕ) (every : EveryRecord Ok s₁ space) where
+    (final-hidden : ℕ → Bool) (Ok : List ℕ → State → Instruction → Type 0)
+    (claim : (xs : List Call) → Along check decode act answeredKind Ok xs (initial s₁) → Indistinguishable final-hidden untorn xs (cardOf s₁) (cardOf s₂))
+    (space : List ℕ) (every : (ks : List Instruction) → Accepts s₁ space ks → EveryAlong Ok ks (initial s₁)) where
   -- both sessions run the same instructions
   module _ (ks : List Instruction) (accepts : Accepts s₁ space ks) (reads₂ : readFrom (countOf s₂) s₂ (startOf s₂) ≡ all ks (recordsEnd (length s₁))) where
     long : leastLog ≤ length s₁
@@ -154,8 +160,8 @@ module _ (hidden : ℕ → Bool) (in-card : (i : ℕ) → fuseAt ≤ i → hidde
         as-calls (countOf s₂) s₂ (startOf s₂) ks (recordsEnd (length s₁)) reads₂ (initial s₂)
         (card-good s₂ (framed-well s₂ (sym (frame-same hidden in-card s₁ s₂ agree) ∙ accepts .frames)))
 
-    indistinguishable : Indistinguishable hidden xs₁ (cardOf s₁) (cardOf s₂)
-    indistinguishable = claim xs₁ (same₁ .along (OnCommand Ok) (every ks accepts))
+    indistinguishable : Indistinguishable final-hidden untorn xs₁ (cardOf s₁) (cardOf s₂)
+    indistinguishable = claim xs₁ (same₁ .along Ok (every ks accepts))
 
     entries-same : entriesOf ks (initial s₁) ≡ entriesOf ks (initial s₂)
     entries-same =
@@ -181,14 +187,14 @@ module _ (hidden : ℕ → Bool) (in-card : (i : ℕ) → fuseAt ≤ i → hidde
     place-same i e =
         (λ t. at (sym (same₁ .ends) t .card) i) ∙ e ∙ (λ t. at (final (xs-same t) (initial s₂) .card) i) ∙ (λ t. at (same₂ .ends t .card) i)
 
-    cards-agree : AgreeOutside hidden (endOf ks (initial s₁) .card) (endOf ks (initial s₂) .card)
+    cards-agree : AgreeOutside final-hidden (endOf ks (initial s₁) .card) (endOf ks (initial s₂) .card)
     cards-agree =
         record {
           long = card-long ∙ sym (end-length ks (initial s₂) ∙ length-take-le cardSize s₂ (let l = long in let w = agree .long in omega arith));
           same = λ i h. place-same i (indistinguishable .outside i h);
         }
 
-    records-alike : RecordsAlike hidden ks ks (initial s₁) (initial s₂)
+    records-alike : RecordsAlike final-hidden ks ks (initial s₁) (initial s₂)
     records-alike =
         record {
           entries = entries-same;
@@ -198,9 +204,9 @@ module _ (hidden : ℕ → Bool) (in-card : (i : ℕ) → fuseAt ≤ i → hidde
           cards = cards-agree;
         }
 
-    logs-alike : RunAlike hidden (accepting (logOf s₁ ks) space) (accepting (logOf s₂ ks) space)
+    logs-alike : RunAlike final-hidden (accepting (logOf s₁ ks) space) (accepting (logOf s₂ ks) space)
     logs-alike =
-        accepted-alike hidden (entriesOf ks (initial s₁)) (entriesOf ks (initial s₂)) (endOf ks (initial s₁) .card) (endOf ks (initial s₂) .card) space
+        accepted-alike final-hidden (entriesOf ks (initial s₁)) (entriesOf ks (initial s₂)) (endOf ks (initial s₁) .card) (endOf ks (initial s₂) .card) space
         entries-same card-long cards-agree
 
   -- ---- the runs
@@ -213,26 +219,27 @@ module _ (hidden : ℕ → Bool) (in-card : (i : ℕ) → fuseAt ≤ i → hidde
 
   on-room : (ks : List Instruction) (t : Bool) → frame s₁ ≡ 0 → readFrom (countOf s₁) s₁ (startOf s₁) ≡ all ks (recordsEnd (length s₁))
       → readFrom (countOf s₂) s₂ (startOf s₂) ≡ all ks (recordsEnd (length s₁)) → ltb (length space) (full s₁ ks) ≡ t
-      → RunAlike hidden (cond t (rejected noSpace space) (accepting (logOf s₁ ks) space)) (cond t (rejected noSpace space) (accepting (logOf s₂ ks) space))
-  on-room ks true f r₁ r₂ q = rejected-alike hidden noSpace space
+      → RunAlike final-hidden (cond t (rejected noSpace space) (accepting (logOf s₁ ks) space))
+      (cond t (rejected noSpace space) (accepting (logOf s₂ ks) space))
+  on-room ks true f r₁ r₂ q = rejected-alike final-hidden noSpace space
   on-room ks false f r₁ r₂ q = logs-alike ks (record { frames = f; reads = r₁; room = ltb-false _ _ q }) r₂
 
   on-end : (ks : List Instruction) (j : ℕ) (t : Bool) → frame s₁ ≡ 0 → readFrom (countOf s₁) s₁ (startOf s₁) ≡ all ks j
       → readFrom (countOf s₂) s₂ (startOf s₂) ≡ all ks j → eqb j (recordsEnd (length s₁)) ≡ t
-      → RunAlike hidden (cond (not t) (rejected bytesLeft space) (written (full s₁ ks) (logOf s₁ ks) space))
+      → RunAlike final-hidden (cond (not t) (rejected bytesLeft space) (written (full s₁ ks) (logOf s₁ ks) space))
       (cond (not t) (rejected bytesLeft space) (written (full s₂ ks) (logOf s₂ ks) space))
   on-end ks j true f r₁ r₂ q =
       let w : j ≡ recordsEnd (length s₁) = eqb-true _ _ q in
-      subst (λ (n : ℕ). RunAlike hidden (written (full s₁ ks) (logOf s₁ ks) space)
+      subst (λ (n : ℕ). RunAlike final-hidden (written (full s₁ ks) (logOf s₁ ks) space)
       (cond (ltb (length space) n) (rejected noSpace space) (accepting (logOf s₂ ks) space))) (full-same ks)
       (on-room ks (ltb (length space) (full s₁ ks)) f (r₁ ∙ ap (all ks) w) (r₂ ∙ ap (all ks) w) refl)
-  on-end ks j false f r₁ r₂ q = rejected-alike hidden bytesLeft space
+  on-end ks j false f r₁ r₂ q = rejected-alike final-hidden bytesLeft space
 
   on-read : (r : Read) → frame s₁ ≡ 0 → readFrom (countOf s₁) s₁ (startOf s₁) ≡ r → readFrom (countOf s₂) s₂ (startOf s₂) ≡ r
-      → RunAlike hidden (ended s₁ space r) (ended s₂ space r)
-  on-read (stopped n) f r₁ r₂ = rejected-alike hidden n space
+      → RunAlike final-hidden (ended s₁ space r) (ended s₂ space r)
+  on-read (stopped n) f r₁ r₂ = rejected-alike final-hidden n space
   on-read (all ks j) f r₁ r₂ =
-      subst (λ (n : ℕ). RunAlike hidden (ended s₁ space (all ks j))
+      subst (λ (n : ℕ). RunAlike final-hidden (ended s₁ space (all ks j))
       (cond (not (eqb j (recordsEnd n))) (rejected bytesLeft space) (written (full s₂ ks) (logOf s₂ ks) space))) (agree .long)
       (on-end ks j (eqb j (recordsEnd (length s₁))) f r₁ r₂ refl)
 
@@ -244,25 +251,25 @@ module _ (hidden : ℕ → Bool) (in-card : (i : ℕ) → fuseAt ≤ i → hidde
       read-same hidden in-card s₁ s₂ agree (countOf s₁) (startOf s₁) (omega arith)
       ∙ (λ t. readFrom (count-same hidden in-card s₁ s₂ agree l t) s₂ (start-same hidden in-card s₁ s₂ agree l t))
 
-  on-frame : (n : ℕ) → frame s₁ ≡ n → RunAlike hidden (framed s₁ space n) (framed s₂ space n)
+  on-frame : (n : ℕ) → frame s₁ ≡ n → RunAlike final-hidden (framed s₁ space n) (framed s₂ space n)
   on-frame zero f =
       let q = reads-same f in
-      subst (λ (r : Read). RunAlike hidden (framed s₁ space 0) (ended s₂ space r)) q (on-read (readFrom (countOf s₁) s₁ (startOf s₁)) f refl (sym q))
-  on-frame (suc n) f = rejected-alike hidden (suc n) space
+      subst (λ (r : Read). RunAlike final-hidden (framed s₁ space 0) (ended s₂ space r)) q (on-read (readFrom (countOf s₁) s₁ (startOf s₁)) f refl (sym q))
+  on-frame (suc n) f = rejected-alike final-hidden (suc n) space
 
-  runs-alike : RunAlike hidden (run s₁ space) (run s₂ space)
+  runs-alike : RunAlike final-hidden (run s₁ space) (run s₂ space)
   unfolding run
   runs-alike =
-      subst (λ (n : ℕ). RunAlike hidden (framed s₁ space (frame s₁)) (framed s₂ space n)) (frame-same hidden in-card s₁ s₂ agree)
+      subst (λ (n : ℕ). RunAlike final-hidden (framed s₁ space (frame s₁)) (framed s₂ space n)) (frame-same hidden in-card s₁ s₂ agree)
       (on-frame (frame s₁) refl)
 
-  pub alike : SessionsAlike hidden s₁ s₂ space
+  pub alike : SessionsAlike final-hidden s₁ s₂ space
   alike = record { runs = runs-alike; records = λ ks₁ ks₂ a₁ a₂. same-records ks₁ ks₂ a₁ a₂ }
     where
-      same-records : (ks₁ ks₂ : List Instruction) → Accepts s₁ space ks₁ → Accepts s₂ space ks₂ → RecordsAlike hidden ks₁ ks₂ (initial s₁) (initial s₂)
+      same-records : (ks₁ ks₂ : List Instruction) → Accepts s₁ space ks₁ → Accepts s₂ space ks₂ → RecordsAlike final-hidden ks₁ ks₂ (initial s₁) (initial s₂)
       same-records ks₁ ks₂ a₁ a₂ =
           let q = sym (reads-same (a₁ .frames)) ∙ a₁ .reads in
-          subst (λ (ks : List Instruction). RecordsAlike hidden ks₁ ks (initial s₁) (initial s₂)) (ap instructionsIn (sym q ∙ a₂ .reads))
+          subst (λ (ks : List Instruction). RecordsAlike final-hidden ks₁ ks (initial s₁) (initial s₂)) (ap instructionsIn (sym q ∙ a₂ .reads))
           (records-alike ks₁ a₁ q)
 
 -- ---- the AT88SC1608
@@ -284,19 +291,44 @@ start-agree hidden s₁ s₂ a =
             let w = length-take cardSize s in
             List·getD-eq-default (cardOf s) 0 (omega arith)
 
-pub read-claim : (z : ℕ) → z < 8 → (s₁ s₂ : List ℕ) → Sealed (cardOf s₁) → Sealed (cardOf s₂) → rpe (register (cardOf s₁) z) ≡ true
-    → AgreeOutside (inZoneOrPasswords z (passwordSet (register (cardOf s₁) z))) s₁ s₂
-    → (space : List ℕ) → EveryRecord (PresentsNeither (passwordSet (register (cardOf s₁) z)) (cardOf s₁) (cardOf s₂)) s₁ space
-    → SessionsAlike (inZoneOrPasswords z (passwordSet (register (cardOf s₁) z))) s₁ s₂ space
-read-claim z zl s₁ s₂ sealed₁ sealed₂ demanded agree space every =
-    let p : ℕ = passwordSet (register (cardOf s₁) z) in
-    let hidden : ℕ → Bool = inZoneOrPasswords z p in
-    alike hidden (λ i h. read.not-hidden z p zl (omega arith) i (omega arith) (λ k n q e. omega arith)) s₁ s₂ agree
-    (PresentsNeither p (cardOf s₁) (cardOf s₂))
-    (calls.read-password z zl (cardOf s₁) (cardOf s₂) sealed₁ sealed₂ demanded (start-agree hidden s₁ s₂ agree)) space every
+-- a condition on commands alone, along the run
+every-along : (Ok : Command → Type 0) (ks : List Instruction) (m : Powered State) → Every (OnCommand Ok) ks → EveryAlong (λ c s k. OnCommand Ok k) ks m
+every-along Ok [] m e = tt
+every-along Ok (k ∷ ks) m e = (e .0, every-along Ok ks (after m k) (e .1))
 
-pub authentication-claim : (z : ℕ) → z < 8 → (s₁ s₂ : List ℕ) → Sealed (cardOf s₁) → Sealed (cardOf s₂) → ate (register (cardOf s₁) z) ≡ true
-    → AgreeOutside (inZone z) s₁ s₂ → (space : List ℕ) → EveryRecord AcceptsNot s₁ space → SessionsAlike (inZone z) s₁ s₂ space
-authentication-claim z zl s₁ s₂ sealed₁ sealed₂ demanded agree space every =
-    alike (inZone z) (λ i h. authentication.not-hidden z i zl (omega arith)) s₁ s₂ agree
-    AcceptsNot (calls.authentication-demanded z zl (cardOf s₁) (cardOf s₂) sealed₁ sealed₂ demanded (start-agree (inZone z) s₁ s₂ agree)) space every
+module _ (z : ℕ) (zl : z < 8) (s₁ s₂ : List ℕ) (sealed₁ : Sealed (cardOf s₁)) (sealed₂ : Sealed (cardOf s₂)) (idle : Idle (cardOf s₁))
+    (demanded : rpe (register (cardOf s₁) z) ≡ true) (agree : AgreeOutside (inZoneOrPasswords z (passwordSet (register (cardOf s₁) z))) s₁ s₂)
+    (space : List ℕ) where
+  abbrev p : ℕ
+  p = passwordSet (register (cardOf s₁) z)
+
+  hidden-before : (i : ℕ) → fuseAt ≤ i → inZoneOrPasswords z p i ≡ false
+  hidden-before i h = read.not-hidden z p zl (omega arith) i (omega arith) (λ k n q e. omega arith)
+
+  pub read-claim : EveryRecord (PresentsNeither p (cardOf s₁) (cardOf s₂)) s₁ space → SessionsAlike (orStaged (inZoneOrPasswords z p)) s₁ s₂ space
+  read-claim every =
+      alike (inZoneOrPasswords z p) hidden-before s₁ s₂ agree (orStaged (inZoneOrPasswords z p)) _
+      (calls.read-password z zl (cardOf s₁) (cardOf s₂) sealed₁ sealed₂ idle demanded (start-agree (inZoneOrPasswords z p) s₁ s₂ agree) untorn) space
+      (λ ks a. every-along (PresentsNeither p (cardOf s₁) (cardOf s₂)) ks (initial s₁) (every ks a))
+
+  pub read-claim-elsewhere : EveryElsewhere z (PresentsNeither p (cardOf s₁) (cardOf s₂)) s₁ space → SessionsAlike (inZoneOrPasswords z p) s₁ s₂ space
+  read-claim-elsewhere =
+      alike (inZoneOrPasswords z p) hidden-before s₁ s₂ agree (inZoneOrPasswords z p) _
+      (calls.read-password-elsewhere z zl (cardOf s₁) (cardOf s₂) sealed₁ sealed₂ idle demanded (start-agree (inZoneOrPasswords z p) s₁ s₂ agree) untorn)
+      space
+
+module _ (z : ℕ) (zl : z < 8) (s₁ s₂ : List ℕ) (sealed₁ : Sealed (cardOf s₁)) (sealed₂ : Sealed (cardOf s₂)) (idle : Idle (cardOf s₁))
+    (demanded : ate (register (cardOf s₁) z) ≡ true) (agree : AgreeOutside (inZone z) s₁ s₂) (space : List ℕ) where
+  zone-before : (i : ℕ) → fuseAt ≤ i → inZone z i ≡ false
+  zone-before i h = authentication.not-hidden z i zl (omega arith)
+
+  pub authentication-claim : EveryRecord AcceptsNot s₁ space → SessionsAlike (orStaged (inZone z)) s₁ s₂ space
+  authentication-claim every =
+      alike (inZone z) zone-before s₁ s₂ agree (orStaged (inZone z)) _
+      (calls.authentication-demanded z zl (cardOf s₁) (cardOf s₂) sealed₁ sealed₂ idle demanded (start-agree (inZone z) s₁ s₂ agree) untorn) space
+      (λ ks a. every-along AcceptsNot ks (initial s₁) (every ks a))
+
+  pub authentication-claim-elsewhere : EveryElsewhere z AcceptsNot s₁ space → SessionsAlike (inZone z) s₁ s₂ space
+  authentication-claim-elsewhere =
+      alike (inZone z) zone-before s₁ s₂ agree (inZone z) _
+      (calls.authentication-demanded-elsewhere z zl (cardOf s₁) (cardOf s₂) sealed₁ sealed₂ idle demanded (start-agree (inZone z) s₁ s₂ agree) untorn) space

@@ -15,7 +15,7 @@ use Rattle.model.specs.At88sc1608.{at88sc1608}
 use Rattle.model.specs.Call.{Powered}
 use Rattle.model.specs.Single.{act}
 use Rattle.model.specs.Session.{after, entriesOf, endOf, initial, Ran, run}
-use Rattle.secrecy.specs.Secret.{AgreeOutside, OnCommand}
+use Rattle.secrecy.specs.Secret.{AgreeOutside, OnCommand, StagesElsewhere}
 use Rattle.properties.specs.AcceptedSession.{Accepts, Every}
 
 -- the places of a log of n bytes that are hidden places of its final card; none where there is no log
@@ -52,6 +52,16 @@ pub record SessionsAlike (hidden : ℕ → Bool) (s₁ s₂ space : List ℕ) : 
   pub runs : RunAlike hidden (run s₁ space) (run s₂ space)
   pub records : (ks₁ ks₂ : List Instruction) → Accepts s₁ space ks₁ → Accepts s₂ space ks₂ → RecordsAlike hidden ks₁ ks₂ (initial s₁) (initial s₂)
 
+-- every instruction of a list meets a condition on the card and the state that it meets, and itself
+abbrev pub EveryAlong : (List ℕ → State → Instruction → Type 0) → List Instruction → Powered State → Type 0
+EveryAlong Ok [] m = Unit {0}
+EveryAlong Ok (k ∷ ks) m = Ok (m .card) (m .state) k × EveryAlong Ok ks (after m k)
+
 -- every record that a session runs meets a condition
 abbrev pub EveryRecord : (Command → Type 0) → List ℕ → List ℕ → Type 0
 EveryRecord Ok s space = (ks : List Instruction) → Accepts s space ks → Every (OnCommand Ok) ks
+
+-- and no staged write among them writes to zone z
+abbrev pub EveryElsewhere : ℕ → (Command → Type 0) → List ℕ → List ℕ → Type 0
+EveryElsewhere z Ok s space =
+    (ks : List Instruction) → Accepts s space ks → EveryAlong (λ c t k. OnCommand Ok k × StagesElsewhere z c t k) ks (initial s)

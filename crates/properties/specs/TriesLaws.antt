@@ -42,13 +42,13 @@ pub handed : (c : List ℕ) (s : Volatile) (k : Command) → length c ≡ cardSi
 unfolding triesLeft
 handed c s k l = hands-out at88sc1608 refl c s k (counters-in c l)
 
-pub given : (c : List ℕ) (s : State) (k : Instruction) → length c ≡ cardSize → act c s k .report .tries ≡ triesGiven at88sc1608 s k (act c s k .card)
+pub given : (c : List ℕ) (s : State) (k : Instruction) → length c ≡ cardSize → act c s k .report .tries ≡ triesGiven at88sc1608 c s k (act c s k .card)
 unfolding triesLeft
 given c s k l = given-tries at88sc1608 refl c s k (counters-in c l)
 
 pub handing : (c : List ℕ) (s : State) (k : Instruction) → length c ≡ cardSize → (space : List ℕ)
     → record { card = act c s k .card; reply = replying (logged (powered c s) k .kind) space (act c s k .report) }
-    ≡ leaving (logged (powered c s) k .kind) (triesGiven at88sc1608 s k (after (powered c s) k .card)) (after (powered c s) k)
+    ≡ leaving (logged (powered c s) k .kind) (triesGiven at88sc1608 c s k (after (powered c s) k .card)) (after (powered c s) k)
     (logged (powered c s) k .response) space
 handing c s k l space =
     let r : Report State = act c s k .report in

@@ -37,5 +37,5 @@ handed-out = handed
 
 -- and so does a card that can be busy: an ignored record hands out 0
 pub given-out : (c : List ℕ) (s : State) (k : Instruction) → length c ≡ cardSize
-    → act c s k .report .tries ≡ triesGiven at88sc1608 s k (act c s k .card)
+    → act c s k .report .tries ≡ triesGiven at88sc1608 c s k (act c s k .card)
 given-out = given

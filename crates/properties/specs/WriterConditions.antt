@@ -8,8 +8,8 @@ use lib.ListN.{length, drop}
 use Rattle.model.specs.Sizes.{cardSize, fuseAt, greatestSession, mostRecords, mostTitle}
 use Rattle.model.specs.Lists.{at}
 use Rattle.model.specs.Record.{recordLength}
-use Rattle.model.specs.Refusal.{sessionLength, tooManyRecords, fuseByte, bytesLeft, noSpace, cardLength, titleLength}
-use Rattle.model.specs.Single.{isFuseByte}
+use Rattle.model.specs.Refusal.{sessionLength, tooManyRecords, fuseByte, stagingBytes, bytesLeft, noSpace, cardLength, titleLength}
+use Rattle.model.specs.Single.{isFuseByte, stagingFits}
 use Rattle.model.specs.Writer.{Parts, sessionBytes}
 use Rattle.properties.specs.Conditions.{Condition, when, recordConditions}
 
@@ -30,12 +30,13 @@ lastOf p space =
     ∷ when noSpace (ltb (length space) (length (sessionBytes p)))
     ∷ []
 
--- 11, 1, 4, 5, 15, the records in turn, 9, 10
+-- 11, 1, 4, 5, 16, 15, the records in turn, 9, 10
 abbrev pub writerConditions : Parts → List ℕ → List Condition
 writerConditions p space =
     when cardLength (not (eqb (length (p .card)) cardSize))
     ∷ when sessionLength (ltb greatestSession (length (sessionBytes p)))
     ∷ when tooManyRecords (ltb mostRecords (p .count))
     ∷ when fuseByte (not (isFuseByte (at (p .card) fuseAt)))
+    ∷ when stagingBytes (not (stagingFits (p .card)))
     ∷ when titleLength (ltb mostTitle (length (p .title)))
     ∷ (endToEnd (p .count) (p .records) ++ lastOf p space)

@@ -12,7 +12,7 @@ use Rattle.model.specs.Instruction.{Instruction}
 use Rattle.model.specs.Record.{recordLength, decode}
 use Rattle.model.specs.Refusal.{bytesLeft, noSpace}
 use Rattle.model.specs.Session.{onDecoded, rejected}
-use Rattle.model.specs.Single.{isFuseByte}
+use Rattle.model.specs.Single.{isFuseByte, stagingFits}
 use Rattle.model.specs.Writer.{Parts, sessionBytes, recordsRefusal, partsRefusal, placed, writeSession}
 use Rattle.laws.specs.RecordLaws.{accepted}
 use Rattle.properties.specs.SessionLaws.{refusal-nonzero}
@@ -54,14 +54,15 @@ records-first (suc n) part d =
 
 -- ---- the writer
 
-past-parts : (a b c e f : Bool) (r d : ℕ) → orElse (cond a 11 (cond b 1 (cond c 4 (cond e 5 (cond f 15 r))))) d
-    ≡ cond a 11 (cond b 1 (cond c 4 (cond e 5 (cond f 15 (orElse r d)))))
-past-parts true b c e f r d = refl
-past-parts false true c e f r d = refl
-past-parts false false true e f r d = refl
-past-parts false false false true f r d = refl
-past-parts false false false false true r d = refl
-past-parts false false false false false r d = refl
+past-parts : (a b c e f g : Bool) (r d : ℕ) → orElse (cond a 11 (cond b 1 (cond c 4 (cond e 5 (cond f 16 (cond g 15 r)))))) d
+    ≡ cond a 11 (cond b 1 (cond c 4 (cond e 5 (cond f 16 (cond g 15 (orElse r d))))))
+past-parts true b c e f g r d = refl
+past-parts false true c e f g r d = refl
+past-parts false false true e f g r d = refl
+past-parts false false false true f g r d = refl
+past-parts false false false false true g r d = refl
+past-parts false false false false false true r d = refl
+past-parts false false false false false false r d = refl
 
 past-checks : (p : Parts) (space : List ℕ) (n : ℕ)
     → placed p space n .refusal ≡ orElse n (cond (ltb (length space) (length (sessionBytes p))) noSpace 0)
@@ -77,7 +78,7 @@ unfolding writeSession partsRefusal
 writer-first p space =
     past-checks p space (partsRefusal p)
     ∙ past-parts (not (eqb (length (p .card)) cardSize)) (ltb greatestSession (length (sessionBytes p))) (ltb mostRecords (p .count))
-    (not (isFuseByte (at (p .card) fuseAt))) (ltb mostTitle (length (p .title))) (recordsRefusal (p .count) (p .records)) _
+    (not (isFuseByte (at (p .card) fuseAt))) (not (stagingFits (p .card))) (ltb mostTitle (length (p .title))) (recordsRefusal (p .count) (p .records)) _
     ∙ ap (λ (n : ℕ). cond (not (eqb (length (p .card)) cardSize)) 11 (rest n))
     (sym (first-append (endToEnd (p .count) (p .records)) (lastOf p space) 0 ∙ records-first (p .count) (p .records) _))
   where
@@ -85,7 +86,8 @@ writer-first p space =
     rest n =
         cond (ltb greatestSession (length (sessionBytes p))) 1
         (cond (ltb mostRecords (p .count)) 4
-        (cond (not (isFuseByte (at (p .card) fuseAt))) 5 (cond (ltb mostTitle (length (p .title))) 15 n)))
+        (cond (not (isFuseByte (at (p .card) fuseAt))) 5
+        (cond (not (stagingFits (p .card))) 16 (cond (ltb mostTitle (length (p .title))) 15 n))))
 
 list-numbered : (n : ℕ) (part : List ℕ) → Numbered (endToEnd n part)
 list-numbered zero part = tt
@@ -104,7 +106,10 @@ writer-numbered p space = (
         some _,
         (
           some _,
-          numbered-append (endToEnd (p .count) (p .records)) (lastOf p space) (list-numbered (p .count) (p .records)) (some _, (some _, tt)),
+          (
+            some _,
+            numbered-append (endToEnd (p .count) (p .records)) (lastOf p space) (list-numbered (p .count) (p .records)) (some _, (some _, tt)),
+          ),
         ),
       ),
     ),

@@ -8,21 +8,23 @@ use native.Mathlib.Omega.{arith}
 use borrow.Author.Tests.{eq-eqb, lt-ltb, le-ltb, eqb-true, leb-true}
 use lib.Dec.{leb, eqb}
 use lib.ListN.{length, take, drop, length-append, List·getD-append}
-use lib.Seq.{getD-append-add, getD-append-seam, drop-append-add, drop-append-seam, take-append-seam, take-at}
+use lib.Seq.{getD-append-add, getD-append-seam, drop-append-add, drop-append-seam, take-append-seam, take-at, getD-drop}
 use Rattle.model.specs.Sizes.{cardSize, fuseAt, trailerSize, leastLog}
 use Rattle.model.specs.Lists.{at}
 use Rattle.laws.specs.BoolLaws.{and-right}
 use Rattle.model.specs.Numbers.{bytesOf, numberAt}
 use Rattle.laws.specs.KindLaws.{each-row}
 use Rattle.laws.specs.NumberLaws.{number-append, number-bytes}
-use Rattle.model.specs.Log.{Ending, ending, endingOf, Entry, zoneBytes, headerBytes, headerLength, entryBytes, entriesBytes, logTrailer}
+use Rattle.model.specs.At88sc1608.{at88sc1608}
+use Rattle.laws.specs.StagingLaws.{staging-same}
+use Rattle.model.specs.Log.{Ending, zoned, Entry, zoneBytes, headerBytes, headerLength, entryBytes, entriesBytes, logTrailer}
 use Rattle.model.specs.Log.{ignoredKind, entryFits, zoneFits, AllFit, Fits, LaidOut, countOf, offsetOf, lengthAt, responseAt, nextEntry}
 use Rattle.model.specs.Log.{entryOk, entriesOk, validAs, valid, entryPlace, placeOf, find, missing, answerIn}
 use Rattle.model.specs.Record.{Kind, kinds, known, lengthFits}
 use Rattle.model.specs.Refusal.{noSuchAnswer}
 use Rattle.laws.specs.EntryLaws.{header-least, header-most}
 use Rattle.properties.specs.AcceptedSession.{entryOf}
-use Rattle.properties.specs.LogLaws.{entry-well, Trailed, trailer-well, ending-is}
+use Rattle.properties.specs.LogLaws.{entry-well, Trailed, trailer-well}
 
 -- ---- lengths
 
@@ -33,7 +35,7 @@ fits-small kind n =
     each-row (λ (r : Kind). r .answers n ≡ true → n ≤ 256)
     (small 0 (omega arith)) (small 4 (omega arith)) (small 0 (omega arith)) (below 256 (omega arith)) (small 0 (omega arith)) (below 128 (omega arith))
     (small 0 (omega arith)) (small 1 (omega arith)) (small 0 (omega arith)) (small 0 (omega arith)) (small 0 (omega arith)) (small 0 (omega arith))
-    (small 0 (omega arith)) (small 1 (omega arith))
+    (small 0 (omega arith)) (small 1 (omega arith)) (small 0 (omega arith)) (small 0 (omega arith))
     kind
   where
     small : (m : ℕ) → m ≤ 256 → eqb n m ≡ true → n ≤ 256
@@ -214,11 +216,11 @@ module _ (E : Ending) where
         let e : length l - 4 ≡ offset + cardSize + 4 = omega arith in
         ap (λ (i : ℕ). numberAt l i 2) e ∙ trailer-number 4 2 ∙ number-bytes 2 (length es) (0x4C ∷ E .last ∷ []) (omega arith)
 
-    fuse-is : at l (offset + fuseAt) ≡ at card fuseAt
-    fuse-is =
-        ap (λ (x : List ℕ). at x (offset + fuseAt)) (w .same)
-        ∙ getD-append-add (entriesBytes E es) (card ++ logTrailer E offset (length es)) fuseAt 0
-        ∙ List·getD-append card (logTrailer E offset (length es)) 0 fuseAt (let n = w .long in omega arith)
+    card-is : (j : ℕ) → j < cardSize → at l (offset + j) ≡ at card j
+    card-is j h =
+        ap (λ (x : List ℕ). at x (offset + j)) (w .same)
+        ∙ getD-append-add (entriesBytes E es) (card ++ logTrailer E offset (length es)) j 0
+        ∙ List·getD-append card (logTrailer E offset (length es)) 0 j (let n = w .long in omega arith)
 
     pub trailer-is : Trailed E l
     trailer-is =
@@ -231,7 +233,9 @@ module _ (E : Ending) where
           second = ap (at l) e₁ ∙ trailer-byte 7;
           few = rw count-is (w .few);
           meets = rw offset-is (sym a);
-          stage = rw (offset-is, fuse-is) (w .stage);
+          stage = rw (offset-is, card-is fuseAt (omega arith)) (w .stage);
+          staging = staging-same at88sc1608 card (drop (offsetOf l) l)
+              (λ j p q. getD-drop (offsetOf l) l j 0 ∙ ap (λ (o : ℕ). at l (o + j)) offset-is ∙ card-is j (omega arith)) ∙ w .staging;
         }
 
     entries-are : entriesOk E (length es) l 0 offset ≡ true
@@ -253,34 +257,34 @@ module _ (E : Ending) where
         rw (offset-is, w .same, drop-append-seam (entriesBytes E es) (card ++ logTrailer E offset (length es)))
         (take-at card (logTrailer E offset (length es)) cardSize (w .long))
 
--- ---- as the reader takes it, which knows both endings
+-- ---- as the reader takes it
 
-module _ (z : Bool) (es : List Entry) (card l : List ℕ) (w : LaidOut (ending z) es card l) where
-  pub written-ending : endingOf l ≡ ending z
-  written-ending = ending-is z l (trailer-is (ending z) es card l w .second)
+module _ (es : List Entry) (card l : List ℕ) (w : LaidOut zoned es card l) where
+  -- its last byte
+  pub written-ending : at l (length l - 1) ≡ zoned .last
+  written-ending = trailer-is zoned es card l w .second
 
   -- the log is accepted
   pub written-valid : valid l ≡ true
-  written-valid = rw written-ending (written-well (ending z) es card l w)
+  written-valid = written-well zoned es card l w
 
   -- answer k is the response of entry k
   pub written-answer : (k : ℕ) → k < length es → answerIn l (find l k) ≡ entryOf es k .response
   unfolding find
   written-answer k h =
-      rw (written-valid, count-is (ending z) es card l w, lt-ltb _ _ h, written-ending)
-      (written-each (ending z) es card l w (λ e l i. take (lengthAt l i) (drop (responseAt (ending z) l i) l) ≡ e .response)
-      (λ p e q f. response-at (ending z) p e q (fits-two e (f .response-fits))) k h)
+      rw (written-valid, count-is zoned es card l w, lt-ltb _ _ h)
+      (written-each zoned es card l w (λ e l i. take (lengthAt l i) (drop (responseAt zoned l i) l) ≡ e .response)
+      (λ p e q f. response-at zoned p e q (fits-two e (f .response-fits))) k h)
 
   -- its kind is that of entry k, and so is its zone where it is named
   pub written-kind : (k : ℕ) → k < length es → at l (placeOf l k) ≡ entryOf es k .kind
-  written-kind k h = rw written-ending (written-each (ending z) es card l w (λ e l i. at l i ≡ e .kind) (λ p e q f. kind-at (ending z) p e q) k h)
+  written-kind k h = (written-each zoned es card l w (λ e l i. at l i ≡ e .kind) (λ p e q f. kind-at zoned p e q) k h)
 
-  pub written-zone : (k : ℕ) → k < length es → ending z .names (entryOf es k .kind) ≡ true → at l (placeOf l k + 3) ≡ entryOf es k .zone
+  pub written-zone : (k : ℕ) → k < length es → zoned .names (entryOf es k .kind) ≡ true → at l (placeOf l k + 3) ≡ entryOf es k .zone
   written-zone k h =
-      rw written-ending
-      (written-each (ending z) es card l w (λ e l i. ending z .names (e .kind) ≡ true → at l (i + 3) ≡ e .zone) (λ p e q f. zone-at (ending z) p e q) k h)
+      (written-each zoned es card l w (λ e l i. zoned .names (e .kind) ≡ true → at l (i + 3) ≡ e .zone) (λ p e q f. zone-at zoned p e q) k h)
 
   -- and past the last entry there is none
   pub written-none : (k : ℕ) → length es ≤ k → find l k ≡ missing noSuchAnswer
   unfolding find
-  written-none k h = rw (written-valid, count-is (ending z) es card l w, le-ltb _ _ h)
+  written-none k h = rw (written-valid, count-is zoned es card l w, le-ltb _ _ h)

@@ -3,7 +3,7 @@ use Prim.Native.Nat.{ℕ, _+_, _≤_, _<_}
 use mathlib.Core.Bool.{Bool, true, false, not}
 use mathlib.Core.List.{List, []}
 use mathlib.Core.Path.{_≡_, sym, ap, _∙_}
-use borrow.Author.Tests.{lt-ltb, le-ltb, le-leb, lt-leb, eq-eqb, ne-eqb}
+use borrow.Author.Tests.{lt-ltb, le-ltb, eq-eqb, ne-eqb, not-false}
 use lib.ListN.{length}
 use Rattle.model.specs.At88sc1608.{at88sc1608}
 use Rattle.model.specs.Call.{refused, whole}
@@ -15,7 +15,12 @@ use Rattle.model.specs.Refusal.{unknownKind, fieldOutOfRange, cutShort}
 use Rattle.record.specs.declared.decoder.Record.{Record}
 use Rattle.record.specs.declared.decoder.Head.{Head}
 use Rattle.record.specs.DecodedRecord.{instructionOf, recordOf, headOf, measureOf}
-use Rattle.record.specs.HeadLaws.{refused-of, whole-of, made-answer, head-instruction}
+use Rattle.record.specs.HeadLaws.{refused-of, whole-of, known-within, made-answer, head-instruction}
+
+-- ---- a kind byte
+
+pub kind-within : (k : ℕ) (ok : Bool) → ok ≡ known k → not ok ≡ false → (1 ≤ k) × (k ≤ 16)
+kind-within k ok e f = known-within k (sym e ∙ not-false ok f)
 
 -- ---- the lengths of a record
 
@@ -24,67 +29,58 @@ module _ (part : List ℕ) where
   unfolding decode
   no-kind e = rw (eq-eqb _ _ e)
 
-  module _ (k : ℕ) (nonempty : length part ≡ 0 → ⊥) (kind : k ≡ at part 0) where
-    pub kind-zero : k ≡ 0 → refused unknownKind ≡ measureOf (decode part)
+  module _ (k : ℕ) (ok : Bool) (nonempty : length part ≡ 0 → ⊥) (kind : k ≡ at part 0) (test : ok ≡ known k) where
+    pub unknown : not ok ≡ true → refused unknownKind ≡ measureOf (decode part)
     unfolding decode
-    kind-zero e = rw (ne-eqb _ _ nonempty, ← kind, eq-eqb _ _ e)
+    unknown e = rw (ne-eqb _ _ nonempty, ← kind, ← test, e)
 
-    module _ (nonzero : k ≡ 0 → ⊥) where
-      pub kind-large : 14 < k → refused unknownKind ≡ measureOf (decode part)
+    module _ (s : ℕ) (found : not ok ≡ false) (start : s ≡ fixedFields k) where
+      pub fields-absent : length part < 1 + s → refused cutShort ≡ measureOf (decode part)
       unfolding decode
-      kind-large e = rw (ne-eqb _ _ nonempty, ← kind, ne-eqb _ _ nonzero, lt-leb _ _ e)
+      fields-absent e = rw (ne-eqb _ _ nonempty, ← kind, ← test, found, ← start, lt-ltb _ _ e)
 
-      module _ (s : ℕ) (small : k ≤ 14) (start : s ≡ fixedFields k) where
-        pub fields-absent : length part < 1 + s → refused cutShort ≡ measureOf (decode part)
+      module _ (a n : ℕ) (ok′ : Bool) (fields : 1 + s ≤ length part) (first : a ≡ at part 1) (second : n ≡ at part 2) (range : ok′ ≡ inRange k a n) where
+        pub out-of-range : not ok′ ≡ true → refused fieldOutOfRange ≡ measureOf (decode part)
         unfolding decode
-        fields-absent e = rw (ne-eqb _ _ nonempty, ← kind, ne-eqb _ _ nonzero, le-leb _ _ small, ← start, lt-ltb _ _ e)
+        out-of-range e = rw (ne-eqb _ _ nonempty, ← kind, ← test, found, ← start, le-ltb _ _ fields, ← first, ← second, ← range, e)
 
-        module _ (a n : ℕ) (ok : Bool) (fields : 1 + s ≤ length part) (first : a ≡ at part 1) (second : n ≡ at part 2) (range : ok ≡ inRange k a n) where
-          pub out-of-range : not ok ≡ true → refused fieldOutOfRange ≡ measureOf (decode part)
+        module _ (m : ℕ) (within : not ok′ ≡ false) (length-is : m ≡ dataLength k n) where
+          pub data-absent : length part < 1 + s + m → refused cutShort ≡ measureOf (decode part)
           unfolding decode
-          out-of-range e =
-              rw (ne-eqb _ _ nonempty, ← kind, ne-eqb _ _ nonzero, le-leb _ _ small, ← start, le-ltb _ _ fields, ← first, ← second, ← range, e)
+          data-absent e =
+              rw (
+                ne-eqb _ _ nonempty,
+                ← kind,
+                ← test,
+                found,
+                ← start,
+                le-ltb _ _ fields,
+                ← first,
+                ← second,
+                ← range,
+                within,
+                ← length-is,
+                lt-ltb _ _ e,
+              )
 
-          module _ (m : ℕ) (within : not ok ≡ false) (length-is : m ≡ dataLength k n) where
-            pub data-absent : length part < 1 + s + m → refused cutShort ≡ measureOf (decode part)
-            unfolding decode
-            data-absent e =
-                rw (
-                  ne-eqb _ _ nonempty,
-                  ← kind,
-                  ne-eqb _ _ nonzero,
-                  le-leb _ _ small,
-                  ← start,
-                  le-ltb _ _ fields,
-                  ← first,
-                  ← second,
-                  ← range,
-                  within,
-                  ← length-is,
-                  lt-ltb _ _ e,
-                )
-
-            pub all-there : (l : ℕ) → 1 + s + m ≤ length part → l ≡ fullAnswer at88sc1608 (made k 0 n []) → whole l (1 + s + m) ≡ measureOf (decode part)
-            unfolding decode
-            all-there l e q =
-                rw (
-                  ne-eqb _ _ nonempty,
-                  ← kind,
-                  ne-eqb _ _ nonzero,
-                  le-leb _ _ small,
-                  ← start,
-                  le-ltb _ _ fields,
-                  ← first,
-                  ← second,
-                  ← range,
-                  within,
-                  ← length-is,
-                  le-ltb _ _ e,
-                )
-                (ap (λ (x : ℕ). whole x (1 + s + m)) (q ∙ made-answer a n _ k known-kind))
-              where
-                known-kind : known k ≡ true
-                known-kind = rw (ne-eqb k 0 nonzero, le-leb k 14 small)
+          pub all-there : (l : ℕ) → 1 + s + m ≤ length part → l ≡ fullAnswer at88sc1608 (made k 0 n []) → whole l (1 + s + m) ≡ measureOf (decode part)
+          unfolding decode
+          all-there l e q =
+              rw (
+                ne-eqb _ _ nonempty,
+                ← kind,
+                ← test,
+                found,
+                ← start,
+                le-ltb _ _ fields,
+                ← first,
+                ← second,
+                ← range,
+                within,
+                ← length-is,
+                le-ltb _ _ e,
+              )
+              (ap (λ (x : ℕ). whole x (1 + s + m)) (q ∙ made-answer a n _ k (sym test ∙ not-false ok found)))
 
 -- ---- the record of a part whose lengths are known
 

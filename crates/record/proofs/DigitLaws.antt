@@ -4,41 +4,36 @@ use mathlib.Core.Bool.{Bool, true, false, cond, not, _&&_, _||_}
 use mathlib.Core.List.{[]}
 use mathlib.Core.Path.{_≡_, refl, sym}
 use native.Mathlib.Omega.{arith}
-use borrow.Author.Tests.{eqb-true, eq-eqb, le-leb, lt-leb, leb-true}
-use lib.Dec.{ltb, leb, eqb}
+use borrow.Author.Tests.{eqb-true, eq-eqb, le-leb, leb-true}
+use lib.Dec.{leb, eqb}
 use Rattle.model.specs.At88sc1608.{at88sc1608}
 use Rattle.laws.specs.BusyLaws.{fullAnswer}
-use Rattle.model.specs.Record.{kinds, fixedFields, inRange, dataLength, made, known, lengthFits}
+use Rattle.model.specs.Record.{kinds, fixedFields, inRange, dataLength, made, lengthFits}
 use Rattle.laws.specs.BoolLaws.{and-left, and-right}
-use Rattle.laws.specs.Tables.{each}
+use Rattle.laws.specs.KindLaws.{each-kind}
+use Rattle.record.specs.HeadLaws.{within-known}
 
 abbrev digitOf : ℕ → ℕ → ℕ
-digitOf digits k = digits / 2 ^ (k * 4) % 16
+digitOf digits k = digits / 2 ^ (k % 16 * 4) % 16
 
--- what holds at 0, .., 14
-to-fourteen : (P : ℕ → Type 0) → P 0 → P 1 → P 2 → P 3 → P 4 → P 5 → P 6 → P 7 → P 8 → P 9 → P 10 → P 11 → P 12 → P 13 → P 14
-    → (k : ℕ) → k ≤ 14 → P k
-to-fourteen P p₀ p₁ p₂ p₃ p₄ p₅ p₆ p₇ p₈ p₉ p₁₀ p₁₁ p₁₂ p₁₃ p₁₄ k h =
-    each P 0 15 (p₀, (p₁, (p₂, (p₃, (p₄, (p₅, (p₆, (p₇, (p₈, (p₉, (p₁₀, (p₁₁, (p₁₂, (p₁₃, (p₁₄, tt))))))))))))))) k (omega arith) (omega arith)
-
-pub fields-digit : (k : ℕ) → k ≤ 14 → digitOf 0x11010022221000 k ≡ fixedFields k
+pub fields-digit : (k : ℕ) → (1 ≤ k) × (k ≤ 16) → digitOf 0x2011010022221002 k ≡ fixedFields k
 unfolding kinds fixedFields
-fields-digit =
-    to-fourteen (λ k. digitOf 0x11010022221000 k ≡ fixedFields k)
-    refl refl refl refl refl refl refl refl refl refl refl refl refl refl refl
+fields-digit k h =
+    each-kind (λ k. digitOf 0x2011010022221002 k ≡ fixedFields k)
+    refl refl refl refl refl refl refl refl refl refl refl refl refl refl refl refl k (within-known k h)
 
-pub data-digit : (n k : ℕ) → k ≤ 14 → cond (eqb k 5 || eqb k 7) n (digitOf 0x8030000000000 k) ≡ dataLength k n
+pub data-digit : (n k : ℕ) → (1 ≤ k) × (k ≤ 16) → cond (eqb (digitOf 0xF0080300F0F00000 k) 15) n (digitOf 0xF0080300F0F00000 k) ≡ dataLength k n
 unfolding kinds dataLength
-data-digit n =
-    to-fourteen (λ k. cond (eqb k 5 || eqb k 7) n (digitOf 0x8030000000000 k) ≡ dataLength k n)
-    refl refl refl refl refl refl refl refl refl refl refl refl refl refl refl
+data-digit n k h =
+    each-kind (λ k. cond (eqb (digitOf 0xF0080300F0F00000 k) 15) n (digitOf 0xF0080300F0F00000 k) ≡ dataLength k n)
+    refl refl refl refl refl refl refl refl refl refl refl refl refl refl refl refl k (within-known k h)
 
-pub answer-digit : (n k : ℕ) → k ≤ 14
+pub answer-digit : (n k : ℕ) → (1 ≤ k) × (k ≤ 16)
     → cond (eqb k 6) n (cond (eqb k 4) (cond (eqb n 0) 256 n) (digitOf 0x100000100000400 k)) ≡ fullAnswer at88sc1608 (made k 0 n [])
 unfolding kinds made
-answer-digit n =
-    to-fourteen (λ k. cond (eqb k 6) n (cond (eqb k 4) (cond (eqb n 0) 256 n) (digitOf 0x100000100000400 k)) ≡ fullAnswer at88sc1608 (made k 0 n []))
-    refl refl refl refl refl refl refl refl refl refl refl refl refl refl refl
+answer-digit n k h =
+    each-kind (λ k. cond (eqb k 6) n (cond (eqb k 4) (cond (eqb n 0) 256 n) (digitOf 0x100000100000400 k)) ≡ fullAnswer at88sc1608 (made k 0 n []))
+    refl refl refl refl refl refl refl refl refl refl refl refl refl refl refl refl k (within-known k h)
 
 -- ---- the lengths of answers in a log
 
@@ -51,22 +46,16 @@ between-same : (m n : ℕ) → (leb m n && leb n m) ≡ eqb n m
 between-same m n = same _ _ (λ e. eq-eqb n m (let p = leb-true m n (and-left (leb m n) _ e) in let q = leb-true n m (and-right (leb m n) _ e) in omega arith))
     (λ e. let q = eqb-true n m e in rw (le-leb m n (omega arith), le-leb n m (omega arith)))
 
-never : (n : ℕ) → (leb 15 n && leb n 0) ≡ false
-never n = go (leb 15 n) refl
-  where
-    go : (t : Bool) → leb 15 n ≡ t → (t && leb n 0) ≡ false
-    go true e = let l = leb-true 15 n e in lt-leb n 0 (omega arith)
-    go false e = refl
-
 abbrev lengthDigits : ℕ → ℕ → Bool
-lengthDigits n k = leb (digitOf 0x10000010101040F k) n && leb n (65536 / 2 ^ (17 - digitOf 0x100000108090300 k))
+lengthDigits n k = leb (digitOf 0x100000101010400 k) n && leb n (65536 / 2 ^ (17 - digitOf 0x100000108090300 k))
 
-pub fits-digit : (n k : ℕ) → k ≤ 14 → lengthDigits n k ≡ (known k && lengthFits k n)
+pub fits-digit : (n k : ℕ) → (1 ≤ k) × (k ≤ 16) → lengthDigits n k ≡ lengthFits k n
 unfolding kinds lengthFits
-fits-digit n =
-    to-fourteen (λ k. lengthDigits n k ≡ (known k && lengthFits k n))
-    (never n) (between-same 0 n) (between-same 4 n) (between-same 0 n) refl (between-same 0 n) refl (between-same 0 n)
-    (between-same 1 n) (between-same 0 n) (between-same 0 n) (between-same 0 n) (between-same 0 n) (between-same 0 n) (between-same 1 n)
+fits-digit n k h =
+    each-kind (λ k. lengthDigits n k ≡ lengthFits k n)
+    (between-same 0 n) (between-same 4 n) (between-same 0 n) refl (between-same 0 n) refl (between-same 0 n) (between-same 1 n)
+    (between-same 0 n) (between-same 0 n) (between-same 0 n) (between-same 0 n) (between-same 0 n) (between-same 1 n) (between-same 0 n) (between-same 0 n)
+    k (within-known k h)
 
 -- ---- the range of the fixed fields
 
@@ -90,40 +79,79 @@ four-bits a = bits 16 15 a (λ e. omega arith) (λ l. omega arith)
 seven-bits : (a : ℕ) → eqb (a / 128) 0 ≡ leb a 127
 seven-bits a = bits 128 127 a (λ e. omega arith) (λ l. omega arith)
 
-sixteen : (n : ℕ) → leb (112 + n) 128 ≡ leb n 16
-sixteen n =
-    same _ _ (λ e. le-leb n 16 (let q = leb-true (112 + n) 128 e in omega arith))
-    (λ e. le-leb (112 + n) 128 (let q = leb-true n 16 e in omega arith))
+-- a count less one fits in so many bits: from 1 on, and up to the greatest
+abbrev lessOne : ℕ → ℕ
+lessOne n = (n + 255) % 256
 
-abbrev fits : ℕ → ℕ → Bool
-fits k a = eqb (a / 2 ^ digitOf 0x881848877883888 k) 0
+both-hold : (s t : Bool) → s ≡ true → t ≡ true → s && t ≡ true
+both-hold true t e f = f
+both-hold false t e f = e
+
+counts : (d m n : ℕ) → (lessOne n / d ≡ 0 → (1 ≤ n) × (n ≤ m)) → ((1 ≤ n) × (n ≤ m) → lessOne n / d ≡ 0) → eqb (lessOne n / d) 0 ≡ (leb 1 n && leb n m)
+counts d m n f g =
+    same _ _ (λ e. let h = f (eqb-true (lessOne n / d) 0 e) in both-hold (leb 1 n) (leb n m) (le-leb 1 n (h .0)) (le-leb n m (h .1)))
+    (λ e. eq-eqb (lessOne n / d) 0 (g (leb-true 1 n (and-left (leb 1 n) _ e), leb-true n m (and-right (leb 1 n) _ e))))
+
+-- a sum is 0 where both parts are
+no-sum : (x y : ℕ) → eqb (x + y) 0 ≡ (eqb x 0 && eqb y 0)
+no-sum x y =
+    same _ _ (λ e. let h = eqb-true (x + y) 0 e in both-hold (eqb x 0) (eqb y 0) (eq-eqb x 0 (omega arith)) (eq-eqb y 0 (omega arith)))
+    (λ e. let p = eqb-true x 0 (and-left (eqb x 0) _ e) in let q = eqb-true y 0 (and-right (eqb x 0) _ e) in eq-eqb (x + y) 0 (omega arith))
+
+turned : (p q r s : Bool) → (p ≡ true → s ≡ true) → (p && (q && (r && s))) ≡ (q && (r && p))
+turned true true true true f = refl
+turned true true true false f = f refl
+turned true true false s f = refl
+turned true false r s f = refl
+turned false true true s f = refl
+turned false true false s f = refl
+turned false false r s f = refl
+
+abbrev fits : ℕ → ℕ → ℕ → Bool
+fits k a n = eqb (a / 2 ^ digitOf 0x8881848877883888 k + lessOne n / 2 ^ digitOf 0x3888888847488888 k) 0
 
 abbrev timed : ℕ → ℕ → Bool
 timed k a = not (eqb k 13) || leb 1 a
 
-abbrev counted : ℕ → ℕ → ℕ → Bool
-counted k a n = leb 1 n && leb (cond (eqb k 6) a 112 + n) 128
+abbrev inside : ℕ → ℕ → ℕ → Bool
+inside k a n = not (eqb k 6) || leb (a + n) 128
 
-module _ (a n : ℕ) (small : a < 256) where
+module _ (a n : ℕ) (small : a < 256) (short : n < 256) where
   byte : eqb (a / 256) 0 ≡ true
   byte = eq-eqb (a / 256) 0 (omega arith)
 
-  pub range-digit : (k : ℕ) → k ≤ 14 → (timed k a && (fits k a && ((ltb k 5 || ltb 7 k) || counted k a n))) ≡ inRange k a n
+  uncounted : eqb (lessOne n / 256) 0 ≡ true
+  uncounted = eq-eqb (lessOne n / 256) 0 (omega arith)
+
+  sixteen : eqb (lessOne n / 16) 0 ≡ (leb 1 n && leb n 16)
+  sixteen = counts 16 16 n (λ e. (omega arith, omega arith)) (λ h. let l = h .0 in let m = h .1 in omega arith)
+
+  eight : eqb (lessOne n / 8) 0 ≡ (leb 1 n && leb n 8)
+  eight = counts 8 8 n (λ e. (omega arith, omega arith)) (λ h. let l = h .0 in let m = h .1 in omega arith)
+
+  configuration : eqb (lessOne n / 128) 0 ≡ (leb 1 n && leb n 128)
+  configuration = counts 128 128 n (λ e. (omega arith, omega arith)) (λ h. let l = h .0 in let m = h .1 in omega arith)
+
+  pub range-digit : (k : ℕ) → (1 ≤ k) × (k ≤ 16) → (timed k a && (inside k a n && fits k a n)) ≡ inRange k a n
   unfolding kinds inRange
-  range-digit =
-      to-fourteen (λ k. (timed k a && (fits k a && ((ltb k 5 || ltb 7 k) || counted k a n))) ≡ inRange k a n)
-      (rw byte)
-      (rw byte)
-      (rw byte)
-      (rw (three-bits a) (and-true _))
-      (rw byte)
-      (rw (byte, sixteen n))
-      (rw (seven-bits a))
-      (rw (seven-bits a, sixteen n))
-      (rw byte)
-      (rw byte)
-      (rw (four-bits a) (and-true _))
-      (rw byte)
-      (rw (one-bit a) (and-true _))
-      (rw (byte, le-leb a 255 (omega arith)))
-      (rw byte)
+  range-digit k h =
+      each-kind (λ k. (timed k a && (inside k a n && fits k a n)) ≡ inRange k a n)
+      (rw (no-sum (a / 256) (lessOne n / 256), byte, uncounted))
+      (rw (no-sum (a / 256) (lessOne n / 256), byte, uncounted))
+      (rw (no-sum (a / 8) (lessOne n / 256), three-bits a, uncounted) (and-true _))
+      (rw (no-sum (a / 256) (lessOne n / 256), byte, uncounted))
+      (rw (no-sum (a / 256) (lessOne n / 16), byte, sixteen))
+      (rw (no-sum (a / 128) (lessOne n / 128), seven-bits a, configuration)
+      (turned (leb (a + n) 128) (leb a 127) (leb 1 n) (leb n 128) (λ e. le-leb n 128 (let q = leb-true (a + n) 128 e in omega arith))))
+      (rw (no-sum (a / 128) (lessOne n / 16), seven-bits a, sixteen))
+      (rw (no-sum (a / 256) (lessOne n / 256), byte, uncounted))
+      (rw (no-sum (a / 256) (lessOne n / 256), byte, uncounted))
+      (rw (no-sum (a / 16) (lessOne n / 256), four-bits a, uncounted) (and-true _))
+      (rw (no-sum (a / 256) (lessOne n / 256), byte, uncounted))
+      (rw (no-sum (a / 2) (lessOne n / 256), one-bit a, uncounted) (and-true _))
+      (rw (no-sum (a / 256) (lessOne n / 256), byte, uncounted, le-leb a 255 (omega arith)))
+      (rw (no-sum (a / 256) (lessOne n / 256), byte, uncounted))
+      (rw (no-sum (a / 256) (lessOne n / 8), byte, eight))
+      (rw (no-sum (a / 256) (lessOne n / 256), byte, uncounted))
+      k
+      (within-known k h)

@@ -8,7 +8,7 @@ use Rattle.model.specs.Lists.{at}
 use Rattle.model.specs.At88sc1608.{at88sc1608}
 use Rattle.model.specs.Call as call
 use Rattle.model.specs.Command as command
-use Rattle.model.specs.Instruction.{Instruction, issue, wait, poll}
+use Rattle.model.specs.Instruction.{Instruction, powerCycle, issue, wait, poll, writeStaged, arm}
 use Rattle.laws.specs.BusyLaws.{fullAnswer}
 use Rattle.record.specs.declared.decoder.Record.{Record}
 use Rattle.record.specs.declared.decoder.Record.the-variants as kind
@@ -25,7 +25,7 @@ between from to part = take (to - from) (drop from part)
 
 -- the instruction of a record that takes the first n bytes of a part: its data lie between its fixed fields and its end
 abbrev pub instructionOf : List ℕ → ℕ → Record → Instruction
-instructionOf part n kind.PowerCycle = issue command.powerCycle
+instructionOf part n kind.PowerCycle = powerCycle
 instructionOf part n kind.Reset = issue command.reset
 instructionOf part n (kind.Select z) = issue (command.select (z .0))
 instructionOf part n (kind.ReadZone a m) = issue (command.readZone a m)
@@ -39,6 +39,8 @@ instructionOf part n kind.BeginAuthentication = issue command.beginAuthenticatio
 instructionOf part n (kind.VerifyAuthentication v) = issue (command.verifyAuthentication v (between 2 n part))
 instructionOf part n (kind.Wait m) = wait m
 instructionOf part n kind.Poll = poll
+instructionOf part n (kind.WriteStaged a) = writeStaged a (between 3 n part)
+instructionOf part n (kind.Arm m junk) = arm m junk
 
 abbrev pub decodedOf : List ℕ → Decoded → call.Decoded Instruction
 decodedOf part (decoded.Refused why) = call.refused (refusalNumber why)
@@ -58,7 +60,8 @@ recordOf k a n =
     (cond (eqb k 9) kind.WriteFuses
     (cond (eqb k 10) (kind.VerifyPassword a)
     (cond (eqb k 11) kind.BeginAuthentication
-    (cond (eqb k 12) (kind.VerifyAuthentication (eqb a 1)) (cond (eqb k 13) (kind.Wait a) kind.Poll))))))))))))
+    (cond (eqb k 12) (kind.VerifyAuthentication (eqb a 1))
+    (cond (eqb k 13) (kind.Wait a) (cond (eqb k 14) kind.Poll (cond (eqb k 15) (kind.WriteStaged a) (kind.Arm a n)))))))))))))))
 
 -- the first three bytes of a part, 0 past its end
 abbrev pub headOf : List ℕ → Head

@@ -4,14 +4,15 @@ use mathlib.Core.Bool.{true, not}
 use mathlib.Core.List.{List, []}
 use mathlib.Core.Path.{_≡_, refl, sym, ap, _∙_}
 use native.Mathlib.Nat.{add-sub-cancel-left}
-use borrow.Author.Tests.{leb-true}
+use native.Mathlib.Omega.{arith}
+use borrow.Author.Tests.{ne-eqb, le-leb, leb-true, eqb-false, not-true}
 use lib.Dec.{leb, eqb}
 use Rattle.model.specs.Lists.{at}
 use Rattle.model.specs.At88sc1608.{at88sc1608}
 use Rattle.model.specs.Call.{Decoded, refused, whole}
 use Rattle.model.specs.Instruction.{Instruction, kindOf}
 use Rattle.model.specs.Record.{kinds, known, fixedFields, dataLength, made, dataAt, recordLength, decode}
-use Rattle.laws.specs.BoolLaws.{and-right}
+use Rattle.laws.specs.BoolLaws.{and-left, and-right}
 use Rattle.laws.specs.CallLaws.{refused-whole}
 use Rattle.laws.specs.BusyLaws.{fullAnswer}
 use Rattle.laws.specs.KindLaws.{each-kind}
@@ -31,13 +32,22 @@ whole-of l n (whole k m) e = let q : n ≡ m = cc in (k, ap (whole k) (sym q), c
 
 -- ---- a known kind
 
+pub known-within : (kind : ℕ) → known kind ≡ true → (1 ≤ kind) × (kind ≤ 16)
+known-within kind e =
+    let z : kind ≡ 0 → ⊥ = eqb-false kind 0 (not-true _ (and-left (not (eqb kind 0)) (leb kind 16) e)) in
+    let m : kind ≤ 16 = leb-true kind 16 (and-right (not (eqb kind 0)) (leb kind 16) e) in
+    (omega arith, m)
+
+pub within-known : (kind : ℕ) → (1 ≤ kind) × (kind ≤ 16) → known kind ≡ true
+within-known kind h = rw (ne-eqb kind 0 (λ e. omega arith), le-leb kind 16 (h .1))
+
 module _ (a n : ℕ) (xs : List ℕ) where
   -- the count alone says how long the answer is
   pub made-answer : (kind : ℕ) → known kind ≡ true → fullAnswer at88sc1608 (made kind 0 n []) ≡ fullAnswer at88sc1608 (made kind a n xs)
   unfolding kinds made
   made-answer =
       each-kind (λ kind. fullAnswer at88sc1608 (made kind 0 n []) ≡ fullAnswer at88sc1608 (made kind a n xs))
-      refl refl refl refl refl refl refl refl refl refl refl refl refl refl
+      refl refl refl refl refl refl refl refl refl refl refl refl refl refl refl refl
 
 -- the record is the instruction with the data behind its fixed fields
 record-made : (part : List ℕ) (m a n kind : ℕ) → known kind ≡ true
@@ -45,7 +55,7 @@ record-made : (part : List ℕ) (m a n kind : ℕ) → known kind ≡ true
 unfolding recordOf kinds made fixedFields
 record-made part m a n =
     each-kind (λ kind. instructionOf part m (recordOf kind a n) ≡ made kind a n (between (1 + fixedFields kind) m part))
-    refl refl refl refl refl refl refl refl refl refl refl refl refl refl
+    refl refl refl refl refl refl refl refl refl refl refl refl refl refl refl refl
 
 -- ---- the first three bytes of an accepted record
 
@@ -53,8 +63,8 @@ module _ (part : List ℕ) (k : Instruction) (n : ℕ) (e : decode part ≡ whol
   abbrev is : Accepted part k n
   is = accepted part k n e
 
-  pub head-known : h .kind ≤ 14
-  head-known = rw head (leb-true (at part 0) 14 (and-right (not (eqb (at part 0) 0)) (leb (at part 0) 14) (is .kind)))
+  pub head-known : (1 ≤ h .kind) × (h .kind ≤ 16)
+  head-known = rw head (known-within (at part 0) (is .kind))
 
   pub head-kind : h .kind ≡ kindOf k
   head-kind = rw head (sym (decode-kind part k n e))

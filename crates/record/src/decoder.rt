@@ -7,6 +7,7 @@ use crate::kind::answer_length;
 use crate::kind::data_length;
 use crate::kind::fixed_fields;
 use crate::kind::in_range;
+use crate::kind::is_known;
 use crate::kind::read_count;
 use crate::refusal::Refusal;
 use access::volatile::Zone;
@@ -31,6 +32,10 @@ pub enum Record {
     // Milliseconds.
     Wait(u8),
     Poll,
+    // An address.
+    WriteStaged(u8),
+    // After how many cell writes, and a junk byte.
+    Arm(u8, u8),
 }
 
 // A refusal, or a record and its length.
@@ -70,7 +75,9 @@ pub fn made(kind: u8, a: u8, n: u8) -> Record
         11 => Record::BeginAuthentication,
         12 => Record::VerifyAuthentication(a == 1),
         13 => Record::Wait(a),
-        _ => Record::Poll,
+        14 => Record::Poll,
+        15 => Record::WriteStaged(a),
+        _ => Record::Arm(a, n),
     }
 }
 
@@ -103,10 +110,7 @@ pub fn measure(part: &[u8]) -> Measured
         return Measured::Refused(Refusal::CutShort);
     }
     let kind = byte_at(part, 0);
-    if kind == 0 {
-        return Measured::Refused(Refusal::UnknownKind);
-    }
-    if 14 < kind {
+    if !is_known(kind) {
         return Measured::Refused(Refusal::UnknownKind);
     }
     let start = 1 + fixed_fields(kind);

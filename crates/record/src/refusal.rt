@@ -18,6 +18,7 @@ pub enum Refusal {
     NotALog,
     NoSuchAnswer,
     TitleLength,
+    StagingBytes,
 }
 
 // The number of a refusal.
@@ -40,6 +41,7 @@ pub fn number(refusal: Refusal) -> u8
         Refusal::NotALog => 13,
         Refusal::NoSuchAnswer => 14,
         Refusal::TitleLength => 15,
+        Refusal::StagingBytes => 16,
     }
 }
 

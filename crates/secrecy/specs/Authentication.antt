@@ -6,22 +6,22 @@ use mathlib.Core.Path.{_≡_, refl, sym, ap, _∙_}
 use native.Mathlib.Omega.{arith}
 use borrow.Author.Tests.{eqb-true, ne-eqb}
 use lib.Dec.{eqb}
-use Rattle.model.specs.Sizes.{fuseAt}
+use Rattle.model.specs.Sizes.{fuseAt, flagAt}
 use Rattle.model.specs.Volatile.{Volatile, isGranted}
 use Rattle.model.specs.Command.{Command}
-use Rattle.model.specs.Busy.{powerOn}
+use Rattle.model.specs.Staging.{Tear}
 use Rattle.model.specs.Call.{Call}
 use Rattle.model.specs.Access.{ate}
 use Rattle.model.specs.At88sc1608.{at88sc1608, fuses, registerAt, registerOf, attemptsAt, configurationAt}
 use Rattle.model.specs.Apply.{rules}
 use Rattle.laws.specs.AccessLaws.{fuse-rule, register-rule, zone-read}
-use Rattle.model.specs.Record.{decode}
 use Rattle.model.specs.Device.{Counter, ofPassword, ofAuthentication, counterPlace}
-use Rattle.laws.specs.Effects.{Move, stays, powers, resets, selects, opens, closes, begins, grants, denies}
+use Rattle.laws.specs.Effects.{Move, stays, resets, selects, opens, closes, begins, grants, denies}
 use Rattle.secrecy.specs.Unwinding.{Open}
-use Rattle.secrecy.specs.Flow.{Confines, Allows, indistinguishable}
-use Rattle.secrecy.specs.Secret.{Sealed, register, inZone, AgreeOutside, AcceptsNot, Throughout, Indistinguishable}
-use Rattle.secrecy.specs.Rights.{rule-kept, last-stage}
+use Rattle.secrecy.specs.Flow.{Confines, Allows}
+use Rattle.secrecy.specs.Secret.{Sealed, Idle, register, inZone, orStaged, AgreeOutside, AcceptsNot, Throughout, ThroughoutElsewhere, Indistinguishable}
+use Rattle.secrecy.specs.Rights.{rule-kept, last-stage, apart}
+use Rattle.secrecy.specs.Claims.{general, elsewhere}
 
 abbrev secret : ℕ → Bool
 secret j = false
@@ -40,6 +40,8 @@ decides z zl =
       counter = counter-open;
       resetByte = λ k. not-hidden z _ zl (omega arith);
       fuse = not-hidden z fuseAt zl (omega arith);
+      flag = not-hidden z flagAt zl (omega arith);
+      named = λ k l. not-hidden z _ zl (omega arith);
     }
   where
     rule-open : (t : Bool) (m : ℕ) → inZone z (cond t fuseAt (registerAt m)) ≡ false
@@ -60,18 +62,19 @@ confines z zl ρ sealed demanded =
       password-apart = λ j i e. omega arith;
       rule-kept = rule-kept ρ sealed;
       last-stage = last-stage ρ sealed;
+      apart = apart;
     }
 
 allows : (b₁ b₂ : List ℕ) → Allows at88sc1608 b₁ b₂ secret Locked AcceptsNot
 allows b₁ b₂ =
     record {
       unpresented = λ j xs ok t. absurd (true≢false (sym t));
+      powers-locked = refl;
       stays-locked = λ c s t k l ok right m. go c s k t l ok m;
     }
   where
     go : (c : List ℕ) (s : Volatile) (k : Command) (t : Volatile) → Locked s → AcceptsNot k → Move at88sc1608 c s k t → Locked t
     go c s k t l ok stays = l
-    go c s k t l ok powers = refl
     go c s k t l ok resets = refl
     go c s k t l ok selects = l
     go c s k t l ok (opens e) = l
@@ -80,11 +83,17 @@ allows b₁ b₂ =
     go c s k t l ok (grants {xs = xs} e) = absurd (ok xs refl)
     go c s k t l ok denies = refl
 
-pub claim : (z : ℕ) → z < 8 → (b₁ b₂ : List ℕ) → Sealed b₁ → Sealed b₂ → ate (register b₁ z) ≡ true
-    → AgreeOutside (inZone z) b₁ b₂ → (xs : List Call) → Throughout AcceptsNot xs b₁ → Indistinguishable (inZone z) xs b₁ b₂
-claim z zl b₁ b₂ s₁ s₂ r h xs a =
-    let v =
-    indistinguishable at88sc1608 (rules at88sc1608 b₁) (inZone z) secret Locked AcceptsNot b₁ b₂
-    (confines z zl (rules at88sc1608 b₁) (fuse-rule b₁ ∙ s₁ .blown) (ap ate (register-rule b₁ z zl) ∙ r))
-    (allows b₁ b₂) decode powerOn refl h refl xs a in
-    record { observed = v .0; long = v .1 .long; counters = λ n. v .1 .same _ (decides z zl .counter n); outside = v .1 .same }
+module _ (z : ℕ) (zl : z < 8) (b₁ b₂ : List ℕ) (s₁ : Sealed b₁) (s₂ : Sealed b₂) (idle : Idle b₁) (r : ate (register b₁ z) ≡ true)
+    (h : AgreeOutside (inZone z) b₁ b₂) (tear : Tear) (xs : List Call) where
+  abbrev ρ : List ℕ
+  ρ = rules at88sc1608 b₁
+
+  ours : Confines at88sc1608 ρ (inZone z) secret Locked
+  ours = confines z zl ρ (fuse-rule b₁ ∙ s₁ .blown) (ap ate (register-rule b₁ z zl) ∙ r)
+
+  pub claim : Throughout AcceptsNot tear xs b₁ → Indistinguishable (orStaged (inZone z)) tear xs b₁ b₂
+  claim = general ρ (inZone z) secret Locked AcceptsNot b₁ b₂ ours (allows b₁ b₂) refl (s₁ .long) idle h tear xs
+
+  pub claim-elsewhere : ThroughoutElsewhere z AcceptsNot tear xs b₁ → Indistinguishable (inZone z) tear xs b₁ b₂
+  claim-elsewhere =
+      elsewhere ρ (inZone z) secret Locked AcceptsNot b₁ b₂ ours (allows b₁ b₂) refl (s₁ .long) idle h tear xs z (λ i l ne. ne-eqb (i / 256) z ne)

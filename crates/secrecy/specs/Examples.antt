@@ -1,6 +1,6 @@
 -- The claims of demand 3 are not empty: for each, two different sealed cards and a list of calls that meets its conditions and
 -- is not told apart; and a list that breaks the condition and tells the cards apart. All of it is computed.
-use Prim.Native.Nat.{ℕ, _%_}
+use Prim.Native.Nat.{ℕ, _+_, _%_}
 use mathlib.Core.Bool.{Bool, true, not, _&&_, _||_, true≢false}
 use mathlib.Core.List.{List, [], _∷_, map}
 use mathlib.Core.Path.{_≡_, refl, sym, ap, _∙_}
@@ -8,28 +8,30 @@ use native.Mathlib.Omega.{arith}
 use borrow.Author.Tests.{eq-eqb, not-true}
 use lib.Dec.{eqb}
 use lib.ListN.{getD, set, replicate, length-set}
+use Rattle.model.specs.Sizes.{flagAt}
 use Rattle.model.specs.Lists.{at, sameList}
 use Rattle.laws.specs.ListLaws.{sameList-refl, at-set-other}
 use Rattle.laws.specs.BoolLaws.{and-left, and-right}
-use Rattle.model.specs.Command.{Command, powerCycle, reset, select, readZone, writeZone, readConfiguration, writeConfiguration}
+use Rattle.model.specs.Command.{Command, reset, select, readZone, writeZone, readConfiguration, writeConfiguration}
 use Rattle.model.specs.Command.{readFuses, writeFuses, verifyPassword, beginAuthentication, verifyAuthentication}
-use Rattle.model.specs.Instruction.{Instruction, issue, wait, poll}
-use Rattle.model.specs.Busy.{State, powerOn, answeredKind}
+use Rattle.model.specs.Instruction.{Instruction, powerCycle, issue, wait, poll, writeStaged, arm}
+use Rattle.model.specs.Staging.{untorn}
+use Rattle.model.specs.Busy.{State, powerOn}
 use Rattle.model.specs.Call.{Call, Decoded, refused, whole, Powered, powered, Reply}
 use Rattle.model.specs.Call as calls
 use Rattle.model.specs.At88sc1608.{registerAt, passwordByte}
 use Rattle.model.specs.Record.{decode}
 use Rattle.model.specs.Computed.{computed}
 use Rattle.model.specs.Trials as trials
-use Rattle.model.specs.Single.{check, act, admit, replies, final}
+use Rattle.model.specs.Single.{check, answeredKind, act, admit, replies, final}
 use Rattle.secrecy.specs.Along.{Along}
-use Rattle.secrecy.specs.Secret.{password, inZone, inZoneOrPasswords, AgreeOutside, PresentsNeither, AcceptsNot, OnCommand, Indistinguishable}
-use Rattle.secrecy.specs.CardSecrecy.{read-password, authentication-demanded}
+use Rattle.secrecy.specs.Secret.{password, inZone, inZoneOrPasswords, orStaged, AgreeOutside, PresentsNeither, AcceptsNot, OnCommand}
+use Rattle.secrecy.specs.Secret.{StagesElsewhere, Indistinguishable}
+use Rattle.secrecy.specs.CardSecrecy.{read-password, read-password-elsewhere, authentication-demanded}
 
 -- ---- the conditions as tests
 
 abbrev presentsNeither : ℕ → List ℕ → List ℕ → Command → Bool
-presentsNeither p b₁ b₂ powerCycle = true
 presentsNeither p b₁ b₂ reset = true
 presentsNeither p b₁ b₂ (select z) = true
 presentsNeither p b₁ b₂ (readZone a n) = true
@@ -43,7 +45,6 @@ presentsNeither p b₁ b₂ beginAuthentication = true
 presentsNeither p b₁ b₂ (verifyAuthentication v xs) = true
 
 abbrev acceptsNot : Command → Bool
-acceptsNot powerCycle = true
 acceptsNot reset = true
 acceptsNot (select z) = true
 acceptsNot (readZone a n) = true
@@ -70,9 +71,12 @@ accepts-not k t xs e = true≢false (sym (rw e at t))
 
 -- a test passes at every call of a list that is not refused
 abbrev onCommand : (Command → Bool) → Instruction → Bool
+onCommand test powerCycle = true
 onCommand test (issue k) = test k
 onCommand test (wait n) = true
 onCommand test poll = true
+onCommand test (writeStaged a xs) = true
+onCommand test (arm k junk) = true
 
 abbrev passes : (Command → Bool) → Decoded Instruction → Bool
 passes test (refused n) = true
@@ -166,11 +170,11 @@ unfolding computed
 read-clean = refl
 
 -- the cards are not told apart, three of the calls are refused, and the secret byte differs to the end
-pub read-example : Indistinguishable (inZoneOrPasswords 2 3) readCalls readCard readCard′
+pub read-example : Indistinguishable (orStaged (inZoneOrPasswords 2 3)) untorn readCalls readCard readCard′
 read-example =
-    read-password 2 (omega arith) readCard readCard′ (record { long = refl; blown = refl }) (record { long = refl; blown = refl }) refl
+    read-password 2 (omega arith) readCard readCard′ (record { long = refl; blown = refl }) (record { long = refl; blown = refl }) refl refl
     (agree-set _ readCard _ (passwordByte 3 0) 0x77 (agree-set _ readCard readCard 512 0x22 (agree-self _ readCard) refl) refl)
-    readCalls
+    untorn readCalls
     (along (presentsNeither 3 readCard readCard′) (PresentsNeither 3 readCard readCard′) (presents-neither 3 readCard readCard′)
     readCalls (powered readCard powerOn) read-clean)
 
@@ -195,7 +199,7 @@ read-differs = (refl, refl)
 abbrev readOpened : List Call
 readOpened = call (3 ∷ 2 ∷ []) 0 ∷ call (10 ∷ 3 ∷ 0xFF ∷ 0xFF ∷ 0xFF ∷ []) 0 ∷ call (13 ∷ 10 ∷ []) 0 ∷ call (4 ∷ 0 ∷ 1 ∷ []) 1 ∷ []
 
-pub read-needed : Indistinguishable (inZoneOrPasswords 2 3) readOpened readCard readCard′ → ⊥
+pub read-needed : Indistinguishable (orStaged (inZoneOrPasswords 2 3)) untorn readOpened readCard readCard′ → ⊥
 unfolding computed
 read-needed i = let e : _≡_ {A = ℕ} 0x11 0 = ap (answered 3) (i .observed) in omega arith
 
@@ -203,7 +207,7 @@ read-needed i = let e : _≡_ {A = ℕ} 0x11 0 = ap (answered 3) (i .observed) i
 abbrev readTried : List Call
 readTried = call (10 ∷ 3 ∷ 0xFF ∷ 0xFF ∷ 0xFF ∷ []) 0 ∷ []
 
-pub tries-needed : Indistinguishable (inZoneOrPasswords 2 3) readTried readCard readCard′ → ⊥
+pub tries-needed : Indistinguishable (orStaged (inZoneOrPasswords 2 3)) untorn readTried readCard readCard′ → ⊥
 unfolding computed
 tries-needed i = let e : _≡_ {A = ℕ} 8 7 = ap (λ (rs : List (Reply State)). at (map (λ r. r .tries) rs) 0) (i .observed) in omega arith
 
@@ -240,11 +244,11 @@ auth-clean : throughout acceptsNot authCalls (powered authCard powerOn) ≡ true
 unfolding computed
 auth-clean = refl
 
-pub auth-example : Indistinguishable (inZone 1) authCalls authCard authCard′
+pub auth-example : Indistinguishable (orStaged (inZone 1)) untorn authCalls authCard authCard′
 auth-example =
-    authentication-demanded 1 (omega arith) authCard authCard′ (record { long = refl; blown = refl }) (record { long = refl; blown = refl }) refl
+    authentication-demanded 1 (omega arith) authCard authCard′ (record { long = refl; blown = refl }) (record { long = refl; blown = refl }) refl refl
     (agree-set _ authCard authCard 256 0x22 (agree-self _ authCard) refl)
-    authCalls (along acceptsNot AcceptsNot accepts-not authCalls (powered authCard powerOn) auth-clean)
+    untorn authCalls (along acceptsNot AcceptsNot accepts-not authCalls (powered authCard powerOn) auth-clean)
 
 pub auth-refusals : refusals authCalls authCard ≡ 0 ∷ 0 ∷ 0 ∷ 0 ∷ 0 ∷ 0 ∷ 0 ∷ 0 ∷ 0 ∷ 0 ∷ 8 ∷ 7 ∷ 0 ∷ 0 ∷ []
 unfolding computed
@@ -268,6 +272,93 @@ authOpened =
     call (3 ∷ 1 ∷ []) 0 ∷ call (11 ∷ []) 0 ∷ call (13 ∷ 10 ∷ []) 0 ∷ call (12 ∷ 1 ∷ replicate 8 7) 0 ∷ call (13 ∷ 10 ∷ []) 0
     ∷ call (4 ∷ 0 ∷ 1 ∷ []) 1 ∷ []
 
-pub auth-needed : Indistinguishable (inZone 1) authOpened authCard authCard′ → ⊥
+pub auth-needed : Indistinguishable (orStaged (inZone 1)) untorn authOpened authCard authCard′ → ⊥
 unfolding computed
 auth-needed i = let e : _≡_ {A = ℕ} 0x11 0x22 = ap (answered 5) (i .observed) in omega arith
+
+-- ---- staged writes
+
+-- Select zone 2, arm a tear at the zone's byte, stage a byte for it: the power is lost there, a read is ignored, a power cycle finishes the
+-- write, and a read of the zone is answered as ever.
+abbrev stagedCalls : List Call
+stagedCalls =
+    call (3 ∷ 2 ∷ []) 0 ∷ call (16 ∷ 5 ∷ 0x55 ∷ []) 0 ∷ call (15 ∷ 0 ∷ 1 ∷ 0x33 ∷ []) 0 ∷ call (4 ∷ 0 ∷ 1 ∷ []) 0 ∷ call (1 ∷ []) 0
+    ∷ call (3 ∷ 2 ∷ []) 0 ∷ call (4 ∷ 0 ∷ 1 ∷ []) 1 ∷ []
+
+staged-clean : throughout (presentsNeither 3 readCard readCard′) stagedCalls (powered readCard powerOn) ≡ true
+unfolding computed
+staged-clean = refl
+
+pub staged-example : Indistinguishable (orStaged (inZoneOrPasswords 2 3)) untorn stagedCalls readCard readCard′
+staged-example =
+    read-password 2 (omega arith) readCard readCard′ (record { long = refl; blown = refl }) (record { long = refl; blown = refl }) refl refl
+    (agree-set _ readCard _ (passwordByte 3 0) 0x77 (agree-set _ readCard readCard 512 0x22 (agree-self _ readCard) refl) refl)
+    untorn stagedCalls
+    (along (presentsNeither 3 readCard readCard′) (PresentsNeither 3 readCard readCard′) (presents-neither 3 readCard readCard′)
+    stagedCalls (powered readCard powerOn) staged-clean)
+
+pub staged-kinds : answeredKinds stagedCalls readCard ≡ 3 ∷ 16 ∷ 15 ∷ 132 ∷ 1 ∷ 3 ∷ 4 ∷ []
+unfolding computed
+staged-kinds = refl
+
+-- the staged value differs, since the zone is program only: old AND new
+pub staged-differs : (finalByte (flagAt + 4) stagedCalls readCard ≡ 0x11) × (finalByte (flagAt + 4) stagedCalls readCard′ ≡ 0x22)
+unfolding computed
+staged-differs = (refl, refl)
+
+-- a staged write to another zone: the test that every staged write goes elsewhere, and that what is staged does not differ
+abbrev elsewhere : ℕ → State → Instruction → Bool
+elsewhere z s powerCycle = true
+elsewhere z s (issue k) = true
+elsewhere z s (wait n) = true
+elsewhere z s poll = true
+elsewhere z s (writeStaged a xs) = not (eqb (s .volatile .zone) z)
+elsewhere z s (arm k junk) = true
+
+abbrev bothPass : ℕ → (Command → Bool) → State → Decoded Instruction → Bool
+bothPass z test s (refused n) = true
+bothPass z test s (whole i n) = onCommand test i && elsewhere z s i
+
+abbrev throughoutElsewhere : ℕ → (Command → Bool) → List Call → Powered State → Bool
+throughoutElsewhere z test [] m = true
+throughoutElsewhere z test (x ∷ xs) m =
+    bothPass z test (m .state) (admit (m .card) (m .state) x) && throughoutElsewhere z test xs (calls.step check decode act answeredKind m x)
+
+goes-elsewhere : (z : ℕ) (c : List ℕ) (s : State) (i : Instruction) → elsewhere z s i ≡ true → StagesElsewhere z c s i
+goes-elsewhere z c s i t a xs e h m q =
+    true≢false (sym (rw e at t) ∙ ap not (eq-eqb (s .volatile .zone) z q))
+
+along-elsewhere : (z : ℕ) (test : Command → Bool) (Ok : Command → Type 0) → ((k : Command) → test k ≡ true → Ok k)
+    → (xs : List Call) (m : Powered State) → throughoutElsewhere z test xs m ≡ true
+    → Along check decode act answeredKind (λ c s i. OnCommand Ok i × StagesElsewhere z c s i) xs m
+unfolding Along
+along-elsewhere z test Ok h [] m t = tt
+along-elsewhere z test Ok h (x ∷ xs) m t =
+    let p = bothPass z test (m .state) (admit (m .card) (m .state) x) in (
+      (λ i n e. let w : (onCommand test i && elsewhere z (m .state) i) ≡ true = rw e at (and-left p _ t) in (
+        (λ k q. h k (rw q at (and-left (onCommand test i) _ w))),
+        goes-elsewhere z (m .card) (m .state) i (and-right (onCommand test i) _ w),
+      )),
+      along-elsewhere z test Ok h xs (calls.step check decode act answeredKind m x) (and-right p _ t),
+    )
+
+abbrev elsewhereCalls : List Call
+elsewhereCalls =
+    call (3 ∷ 4 ∷ []) 0 ∷ call (15 ∷ 0 ∷ 1 ∷ 0x33 ∷ []) 0 ∷ call (1 ∷ []) 0 ∷ call (3 ∷ 2 ∷ []) 0 ∷ call (4 ∷ 0 ∷ 1 ∷ []) 1 ∷ []
+
+elsewhere-clean : throughoutElsewhere 2 (presentsNeither 3 readCard readCard′) elsewhereCalls (powered readCard powerOn) ≡ true
+unfolding computed
+elsewhere-clean = refl
+
+pub elsewhere-example : Indistinguishable (inZoneOrPasswords 2 3) untorn elsewhereCalls readCard readCard′
+elsewhere-example =
+    read-password-elsewhere 2 (omega arith) readCard readCard′ (record { long = refl; blown = refl }) (record { long = refl; blown = refl }) refl refl
+    (agree-set _ readCard _ (passwordByte 3 0) 0x77 (agree-set _ readCard readCard 512 0x22 (agree-self _ readCard) refl) refl)
+    untorn elsewhereCalls
+    (along-elsewhere 2 (presentsNeither 3 readCard readCard′) (PresentsNeither 3 readCard readCard′) (presents-neither 3 readCard readCard′)
+    elsewhereCalls (powered readCard powerOn) elsewhere-clean)
+
+-- the write to the zone itself does not meet that claim
+pub elsewhere-needed : Indistinguishable (inZoneOrPasswords 2 3) untorn stagedCalls readCard readCard′ → ⊥
+unfolding computed
+elsewhere-needed i = let e : _≡_ {A = ℕ} 0x11 0x22 = i .outside (flagAt + 4) refl in omega arith

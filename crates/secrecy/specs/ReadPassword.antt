@@ -6,25 +6,26 @@ use mathlib.Core.Path.{_≡_, refl, sym, ap, _∙_}
 use native.Mathlib.Omega.{arith}
 use borrow.Author.Tests.{eqb-true, eqb-false, ne-eqb}
 use lib.Dec.{eqb}
-use Rattle.model.specs.Sizes.{fuseAt}
+use Rattle.model.specs.Sizes.{fuseAt, flagAt}
 use Rattle.model.specs.Lists.{sameList}
 use Rattle.laws.specs.BoolLaws.{and-false}
 use Rattle.model.specs.Volatile.{Volatile, isActive, isGranted}
 use Rattle.model.specs.Command.{Command, verifyPassword}
-use Rattle.model.specs.Busy.{powerOn}
+use Rattle.model.specs.Staging.{Tear}
 use Rattle.model.specs.Call.{Call}
 use Rattle.model.specs.Access.{rpe, ate, passwordSet, met, setOf}
 use Rattle.model.specs.At88sc1608.{at88sc1608, fuses, registerAt, registerOf, passwordByte, mayRead, attemptsAt, configurationAt}
 use Rattle.model.specs.Apply.{rules, password}
 use Rattle.laws.specs.AccessLaws.{fuse-rule, register-rule, zone-read, configuration-read, configuration-written}
-use Rattle.model.specs.Record.{decode}
 use Rattle.model.specs.Device.{Counter, ofPassword, ofAuthentication, counterPlace}
-use Rattle.laws.specs.Effects.{Move, stays, powers, resets, selects, opens, closes, begins, grants, denies}
+use Rattle.laws.specs.Effects.{Move, stays, resets, selects, opens, closes, begins, grants, denies}
 use Rattle.laws.specs.Sane.{Untouched}
 use Rattle.secrecy.specs.Unwinding.{Open}
-use Rattle.secrecy.specs.Flow.{Confines, Allows, indistinguishable}
-use Rattle.secrecy.specs.Secret.{Sealed, register, inZone, inPassword, inZoneOrPasswords, AgreeOutside, PresentsNeither, Throughout, Indistinguishable}
-use Rattle.secrecy.specs.Rights.{password-right, password-odd, password-set, password-counter, rule-kept, last-stage}
+use Rattle.secrecy.specs.Flow.{Confines, Allows}
+use Rattle.secrecy.specs.Secret.{Sealed, Idle, register, inZone, inPassword, inZoneOrPasswords, orStaged, AgreeOutside, PresentsNeither, Throughout}
+use Rattle.secrecy.specs.Secret.{ThroughoutElsewhere, Indistinguishable}
+use Rattle.secrecy.specs.Rights.{password-right, password-odd, password-set, password-counter, rule-kept, last-stage, apart}
+use Rattle.secrecy.specs.Claims.{general, elsewhere}
 
 -- ---- places
 
@@ -80,6 +81,8 @@ module _ (z p : ℕ) (zone : z < 8) (set : p < 8) where
         counter = counter-open;
         resetByte = λ k. not-hidden _ (omega arith) (λ j n q e. omega arith);
         fuse = not-hidden fuseAt (omega arith) (λ j n q e. omega arith);
+        flag = not-hidden flagAt (omega arith) (λ j n q e. omega arith);
+        named = λ k l. not-hidden _ (omega arith) (λ j n q e. omega arith);
       }
     where
       rule-open : (t : Bool) (m : ℕ) → hidden (cond t fuseAt (registerAt m)) ≡ false
@@ -122,12 +125,14 @@ module _ (z p : ℕ) (zone : z < 8) (set : p < 8) where
           password-apart = λ j i e. omega arith;
           rule-kept = rule-kept ρ sealed;
           last-stage = last-stage ρ sealed;
+          apart = apart;
         }
 
   allows : (b₁ b₂ : List ℕ) → Allows at88sc1608 b₁ b₂ secret Locked (PresentsNeither p b₁ b₂)
   allows b₁ b₂ =
       record {
         unpresented = λ j xs ok t. ok j xs refl (eqb-true (j % 8) p t);
+        powers-locked = (refl, refl);
         stays-locked = λ c s t k l ok right m. go c s k t l right m;
       }
     where
@@ -135,7 +140,6 @@ module _ (z p : ℕ) (zone : z < 8) (set : p < 8) where
           → ((j : ℕ) (xs : List ℕ) → k ≡ verifyPassword j xs → sameList xs (password at88sc1608 c j) ≡ true → secret j ≡ false)
           → Move at88sc1608 c s k t → Locked t
       go c s k t l right stays = l
-      go c s k t l right powers = (refl, refl)
       go c s k t l right resets = (refl, refl)
       go c s k t l right selects = l
       go c s k t l right (opens {j = j} {xs = xs} e) =
@@ -146,21 +150,31 @@ module _ (z p : ℕ) (zone : z < 8) (set : p < 8) where
       go c s k t l right (grants e) = l
       go c s k t l right denies = l
 
-pub claim : (z : ℕ) → z < 8 → (b₁ b₂ : List ℕ) → Sealed b₁ → Sealed b₂ → rpe (register b₁ z) ≡ true
-    → AgreeOutside (inZoneOrPasswords z (passwordSet (register b₁ z))) b₁ b₂
-    → (xs : List Call) → Throughout (PresentsNeither (passwordSet (register b₁ z)) b₁ b₂) xs b₁
-    → Indistinguishable (inZoneOrPasswords z (passwordSet (register b₁ z))) xs b₁ b₂
-claim z zl b₁ b₂ s₁ s₂ r h xs a =
-    let p : ℕ = passwordSet (register b₁ z) in
-    let pl : p < 8 = omega arith in
-    let ρ : List ℕ = rules at88sc1608 b₁ in
-    let v =
-    indistinguishable at88sc1608 ρ (hidden z p zl pl) (secret z p zl pl) (Locked z p zl pl) (PresentsNeither p b₁ b₂) b₁ b₂
-    (confines z p zl pl ρ (fuse-rule b₁ ∙ s₁ .blown) (ap rpe (register-rule b₁ z zl) ∙ r) (ap passwordSet (register-rule b₁ z zl)))
-    (allows z p zl pl b₁ b₂) decode powerOn refl h (refl, refl) xs a in
-    record {
-      observed = v .0;
-      long = v .1 .long;
-      counters = λ n. v .1 .same _ (decides z p zl pl .counter n);
-      outside = v .1 .same;
-    }
+module _ (z : ℕ) (zl : z < 8) (b₁ b₂ : List ℕ) (s₁ : Sealed b₁) (s₂ : Sealed b₂) (idle : Idle b₁) (r : rpe (register b₁ z) ≡ true)
+    (h : AgreeOutside (inZoneOrPasswords z (passwordSet (register b₁ z))) b₁ b₂) (tear : Tear) (xs : List Call) where
+  abbrev p : ℕ
+  p = passwordSet (register b₁ z)
+
+  pl : p < 8
+  pl = omega arith
+
+  abbrev ρ : List ℕ
+  ρ = rules at88sc1608 b₁
+
+  ours : Confines at88sc1608 ρ (hidden z p zl pl) (secret z p zl pl) (Locked z p zl pl)
+  ours = confines z p zl pl ρ (fuse-rule b₁ ∙ s₁ .blown) (ap rpe (register-rule b₁ z zl) ∙ r) (ap passwordSet (register-rule b₁ z zl))
+
+  pub claim : Throughout (PresentsNeither p b₁ b₂) tear xs b₁ → Indistinguishable (orStaged (inZoneOrPasswords z p)) tear xs b₁ b₂
+  claim =
+      general ρ (hidden z p zl pl) (secret z p zl pl) (Locked z p zl pl) (PresentsNeither p b₁ b₂) b₁ b₂ ours (allows z p zl pl b₁ b₂)
+      refl (s₁ .long) idle h tear xs
+
+  -- a byte of another zone is not hidden
+  other-zone : (i : ℕ) → i < configurationAt → (i / 256 ≡ z → ⊥) → inZoneOrPasswords z p i ≡ false
+  other-zone i l ne =
+      rw (ne-eqb (i / 256) z ne, not-in-password p i (λ n e. omega arith), not-in-password (8 + p) i (λ n e. omega arith))
+
+  pub claim-elsewhere : ThroughoutElsewhere z (PresentsNeither p b₁ b₂) tear xs b₁ → Indistinguishable (inZoneOrPasswords z p) tear xs b₁ b₂
+  claim-elsewhere =
+      elsewhere ρ (hidden z p zl pl) (secret z p zl pl) (Locked z p zl pl) (PresentsNeither p b₁ b₂) b₁ b₂ ours (allows z p zl pl b₁ b₂)
+      refl (s₁ .long) idle h tear xs z other-zone

@@ -9,11 +9,12 @@ use lib.Dec.{eqb}
 use Rattle.model.specs.Lists.{at}
 use Rattle.model.specs.Volatile.{Volatile, Active, isActive}
 use Rattle.model.specs.Access.{permissions, permission, permits, areaOf, stageOf, setOf, configurationAllows}
-use Rattle.model.specs.Sizes.{fuseAt}
+use Rattle.model.specs.Sizes.{fuseAt, flagAt}
 use Rattle.model.specs.At88sc1608.{at88sc1608, fuses, registerAt, passwordByte, ruleAt, blow, configurationAt}
 use Rattle.laws.specs.AccessLaws.{configuration-written}
 use Rattle.model.specs.Device.{Counter, ofPassword, ofAuthentication, counterPlace}
-use Rattle.laws.specs.Sane.{Untouched, fuse-shut, fuse-counter}
+use Rattle.laws.specs.Sane.{Untouched, behind-shut, fuse-shut, fuse-counter, stageable}
+use Rattle.secrecy.specs.Flow.{Apart}
 
 -- ---- the places of a password: in the configuration from $40 on, never at a multiple of 4, of the selector's set
 
@@ -82,3 +83,29 @@ last-stage ρ f k l e = go (eqb k 0) refl e
     go : (t : Bool) → eqb k 0 ≡ t → cond t fuseAt (registerAt (k - 1)) ≡ fuseAt → blow (at ρ k) ≡ at ρ k
     go true q e = let w : k ≡ 0 = eqb-true k 0 q in rw (w, f)
     go false q e = absurd (let w : ⊥ = omega arith in w)
+
+-- ---- what no staged write reaches
+
+pub apart : Apart at88sc1608
+apart =
+    record {
+      stages = stageable;
+      rule-below = λ k. rule-below (eqb k 0) (k - 1);
+      rule-outside = λ k z a n. rule-outside (eqb k 0) (k - 1) z a n;
+      password-below = λ j i. omega arith;
+      password-outside = λ j i z a n e. omega arith;
+      staging-kept = λ ρ s j l. record { shut = behind-shut ρ s j (omega arith); counters = counters j l; cryptogram = λ n e. omega arith };
+      staging-apart = λ j l e. omega arith;
+    }
+  where
+    rule-below : (t : Bool) (m : ℕ) → cond t fuseAt (registerAt m) < flagAt
+    rule-below true m = omega arith
+    rule-below false m = omega arith
+
+    rule-outside : (t : Bool) (m z a n : ℕ) → cond t fuseAt (registerAt m) ≡ at88sc1608 .zoneCell z a n → ⊥
+    rule-outside true m z a n e = omega arith
+    rule-outside false m z a n e = omega arith
+
+    counters : (j : ℕ) → flagAt ≤ j → (n : Counter) → j ≡ counterPlace at88sc1608 n → ⊥
+    counters j l (ofPassword k) e = omega arith
+    counters j l ofAuthentication e = omega arith

@@ -3,7 +3,7 @@
 use Prim.Native.Nat.{ℕ}
 use mathlib.Core.Bool.{cond}
 use mathlib.Core.List.{List, [], _∷_}
-use mathlib.Core.Path.{_≡_, refl, ap, subst}
+use mathlib.Core.Path.{_≡_, refl, subst}
 use lib.Dec.{ltb}
 use lib.ListN.{length}
 use Rattle.model.specs.Refusal.{noSpace}
@@ -16,7 +16,7 @@ abbrev pub Twin : {S : Type 0} → (List ℕ → List ℕ → S → Type 0) → 
 Twin R m n = (m .state ≡ n .state) × R (m .card) (n .card) (m .state)
 
 module _ {S K : Type 0} (check : List ℕ → S → ℕ) (decode : List ℕ → Decoded K) (act : List ℕ → S → K → Acted S)
-    (kind : S → K → ℕ) where
+    (kind : List ℕ → S → K → ℕ) where
   -- what a call whose admission is known leaves
   abbrev does : List ℕ → S → Call → Decoded K → Called S
   does c s x d = carried check decode act kind c s (x .space) d
@@ -26,6 +26,7 @@ module _ {S K : Type 0} (check : List ℕ → S → ℕ) (decode : List ℕ → 
       (Ok : List ℕ → S → K → Type 0)
       (checks : (c₁ c₂ : List ℕ) (s : S) → R c₁ c₂ s → check c₁ s ≡ check c₂ s)
       (sizes : (c₁ c₂ : List ℕ) (s : S) (k : K) → R c₁ c₂ s → length (act c₁ s k .report .answer) ≡ length (act c₂ s k .report .answer))
+      (kinds : (c₁ c₂ : List ℕ) (s : S) (k : K) → R c₁ c₂ s → kind c₁ s k ≡ kind c₂ s k)
       (unwinds : (c₁ c₂ : List ℕ) (s : S) (k : K) → R c₁ c₂ s → Ok c₁ s k
       → (act c₁ s k .report ≡ act c₂ s k .report) × R (act c₁ s k .card) (act c₂ s k .card) (act c₁ s k .report .state)) where
     -- a call is refused, or carried out, on both cards alike
@@ -48,7 +49,7 @@ module _ {S K : Type 0} (check : List ℕ → S → ℕ) (decode : List ℕ → 
     does-same c₁ c₂ s x (refused n) r ok = (refl, r)
     does-same c₁ c₂ s x (whole k n) r ok =
         let u = unwinds c₁ c₂ s k r (ok k n refl) in
-        (ap (replying (kind s k) (x .space)) (u .0), u .1)
+        (λ i. replying (kinds c₁ c₂ s k r i) (x .space) (u .0 i), u .1)
 
     pub call-same : (c₁ c₂ : List ℕ) (s : S) (x : Call) → R c₁ c₂ s
         → ((k : K) (n : ℕ) → admit check decode act c₁ s x ≡ whole k n → Ok c₁ s k)

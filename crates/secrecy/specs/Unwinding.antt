@@ -1,6 +1,6 @@
 -- Unwinding: one command on two cards that agree outside the hidden places, at a common state, for any device. Where the hidden
 -- places may not be read and the password presented is judged alike, both cards report the same and agree as before.
-use Prim.Native.Nat.{ℕ}
+use Prim.Native.Nat.{ℕ, _<_}
 use mathlib.Core.Bool.{Bool, true, false, cond, not, _&&_}
 use mathlib.Core.List.{List, [], _∷_}
 use mathlib.Core.Path.{_≡_, refl, ap, subst, _∙_}
@@ -9,9 +9,10 @@ use lib.ListN.{set}
 use Rattle.model.specs.Lists.{at, tab, sameList, stores}
 use Rattle.laws.specs.ListLaws.{tab-cong}
 use Rattle.model.specs.Volatile.{Volatile, isBegun}
-use Rattle.model.specs.Command.{Command, powerCycle, reset, select, readZone, writeZone, readConfiguration, writeConfiguration}
+use Rattle.model.specs.Command.{Command, reset, select, readZone, writeZone, readConfiguration, writeConfiguration}
 use Rattle.model.specs.Command.{readFuses, writeFuses, verifyPassword, beginAuthentication, verifyAuthentication}
 use Rattle.model.specs.Device.{Device, Counter, ofPassword, ofAuthentication, counterPlace}
+use Rattle.model.specs.Staging.{stagedAt}
 use Rattle.model.specs.Busy.{makesBusy}
 use Rattle.model.specs.Call.{Acted, attempted, reporting, silent, tried}
 use Rattle.model.specs.Apply.{Attempt, locked, right, wrong, attemptOf, Judgement, notBegun, accepted, denied, judgementOf}
@@ -25,6 +26,9 @@ pub record Open (D : Device) (hidden : ℕ → Bool) : Type 0 where
   pub counter : (n : Counter) → hidden (counterPlace D n) ≡ false
   pub resetByte : (k : ℕ) → hidden (D .resetByte k) ≡ false
   pub fuse : hidden (D .fuseAt) ≡ false
+  -- and what a staged write names, but for its values
+  pub flag : hidden (D .flagAt) ≡ false
+  pub named : (k : ℕ) → k < 3 → hidden (stagedAt D k) ≡ false
 
 -- what a command leaves on two cards: the same report, and cards that agree
 abbrev pub Same : (ℕ → Bool) → Acted Volatile → Acted Volatile → Type 0
@@ -36,7 +40,6 @@ module _ (D : Device) (hidden : ℕ → Bool) (open-places : Open D hidden) wher
 
   -- a command makes both cards busy, or neither
   pub busy-same : (c₁ c₂ : List ℕ) (v : Volatile) (k : Command) → AgreeOutside hidden c₁ c₂ → makesBusy D c₁ v k ≡ makesBusy D c₂ v k
-  busy-same c₁ c₂ v powerCycle h = refl
   busy-same c₁ c₂ v reset h = refl
   busy-same c₁ c₂ v (select z) h = refl
   busy-same c₁ c₂ v (readZone a n) h = refl
@@ -97,7 +100,6 @@ module _ (D : Device) (hidden : ℕ → Bool) (open-places : Open D hidden) wher
     pub unwind : (k : Command) → ((j : ℕ) (xs : List ℕ) → k ≡ verifyPassword j xs → sameList xs (password D c₁ j) ≡ sameList xs (password D c₂ j))
         → Same hidden (apply D c₁ s k) (apply D c₂ s k)
     unfolding apply
-    unwind powerCycle g = (refl, h)
     unwind reset g = (ap (reporting _) (tab-cong _ _ (D .resetCount) (λ k l. ap (D .sent) (h .same _ (open-places .resetByte k)))), h)
     unwind (select z) g = (refl, h)
     unwind (readZone a n) g = (ap (reporting s) (read-same (D .zoneByte (s .zone) a) n), h)

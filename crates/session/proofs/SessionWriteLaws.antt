@@ -10,7 +10,7 @@ use lib.Seq.{sets, sets-eq, length-sets, drop-append-le, drop-drop, take-all, le
 use Rattle.model.specs.Sizes.{cardSize, leastSession, leastLog}
 use Rattle.laws.specs.NumberLaws.{sets-append}
 use Rattle.model.specs.At88sc1608.{at88sc1608}
-use Rattle.model.specs.Busy.{State, powerOn, actsAlways, ignores, answeredKind}
+use Rattle.model.specs.Busy.{State, powerOn, actsAlways, actsBusy, isHalted, ignores}
 use Rattle.model.specs.Call.{Powered, powered, silent, whole}
 use Rattle.model.specs.Instruction.{Instruction, kindOf}
 use Rattle.laws.specs.BusyLaws.{fullAnswer, givenAnswer, act-ignored, given-answer, given-most}
@@ -22,11 +22,12 @@ use Rattle.laws.specs.ReaderLaws.{next-within}
 use Rattle.laws.specs.RecordLaws.{decode-ranged}
 use Rattle.laws.specs.Sane.{Good, good-after}
 use Rattle.model.specs.Session.{cardOf, startOf, countOf, readFrom, all, logged, after, entriesOf, endOf, initial, logOf}
-use Rattle.model.specs.Single.{act}
+use Rattle.model.specs.Single.{answeredKind, act}
 use Rattle.record.specs.DecodedRecord.{headOf, askedBy}
 use Rattle.record.specs.HeadLaws.{head-known, head-kind, head-answer, head-size, head-instruction}
 use Rattle.record.specs.declared.decoder.Head.{Head}
-use Rattle.carry.specs.Carried.{Ready, Carried, ActReady, Acted}
+use Rattle.issue.specs.Issued.{Ready, Carried}
+use Rattle.carry.specs.Carried.{ActReady, Acted}
 use Rattle.carry.specs.ActLaws.{carry-ready, acted-carried}
 use Rattle.properties.specs.AcceptedSessionLaws.{framed-well, card-good}
 use Rattle.session.specs.Run.{EntryReady, EntryWritten, RecordsReady, RecordsRun, LogReady, LogWritten}
@@ -53,7 +54,7 @@ module _ (part : List ℕ) (m : Powered State) (log : List ℕ) (place : ℕ) (r
   abbrev zone : ℕ
   zone = m .state .volatile .zone
 
-  pub entry-known : h .kind ≤ 14
+  pub entry-known : (1 ≤ h .kind) × (h .kind ≤ 16)
   entry-known = head-known part i (r .size) (r .decodes) h head
 
   -- a header has room, and a response behind it
@@ -68,19 +69,22 @@ module _ (part : List ℕ) (m : Powered State) (log : List ℕ) (place : ℕ) (r
       let f = head-answer part i (r .size) (r .decodes) h head in
       omega arith
 
-  act-ready : (space : List ℕ) → givenAnswer at88sc1608 (m .state) i ≤ length space → (h ≡ headOf part) × ActReady (m .card) (m .state) i part (r .size) space
+  act-ready : (space : List ℕ) → givenAnswer at88sc1608 (m .card) (m .state) i ≤ length space → (h ≡ headOf part) × ActReady (m .card) (m .state) i part
+      (r .size) space
   act-ready space room = (head, record { good = r .good; decodes = r .decodes; room = room })
 
-  module _ (t : Bool) (tested : t ≡ (ltb 0 (m .state .busy) && not (actsAlways (h .kind)))) where
+  module _ (b t : Bool) (halts : b ≡ isHalted at88sc1608 (m .card) (m .state))
+      (tested : t ≡ cond b (not (actsAlways (h .kind))) (ltb 0 (m .state .busy) && not (actsBusy (h .kind)))) where
     -- an ignored record
     module _ (q : t ≡ true) where
       kind-same : h .kind ≡ kindOf i
       kind-same = head-kind part i (r .size) (r .decodes) h head
 
-      ignored : ignores (m .state) i ≡ true
-      ignored = ap (λ (k : ℕ). ltb 0 (m .state .busy) && not (actsAlways k)) (sym kind-same) ∙ sym tested ∙ q
+      ignored : ignores at88sc1608 (m .card) (m .state) i ≡ true
+      ignored =
+          sym (tested ∙ (λ k. cond (halts k) (not (actsAlways (kind-same k))) (ltb 0 (m .state .busy) && not (actsBusy (kind-same k))))) ∙ q
 
-      kinds : h .kind + 128 ≡ answeredKind (m .state) i
+      kinds : h .kind + 128 ≡ answeredKind (m .card) (m .state) i
       kinds = ap (λ (k : ℕ). k + 128) kind-same ∙ ap (λ (b : Bool). cond b (kindOf i + 128) (kindOf i)) (sym ignored)
 
       pub entry-ignored : (end : ℕ) (log′ : List ℕ) → log′ ≡ sets log place (headerBytes zoned (h .kind + 128) 0 zone)
@@ -121,10 +125,10 @@ module _ (part : List ℕ) (m : Powered State) (log : List ℕ) (place : ℕ) (r
       from-is : from ≡ place + length (headerBytes zoned (h .kind) a zone)
       from-is = begins ∙ ap (λ (n : ℕ). place + n) (sym (length-header zoned (h .kind) a zone))
 
-      room : from + givenAnswer at88sc1608 (m .state) i ≤ length log₁
+      room : from + givenAnswer at88sc1608 (m .card) (m .state) i ≤ length log₁
       room =
           let l = long in
-          let g = given-most at88sc1608 (m .state) i in
+          let g = given-most at88sc1608 (m .card) (m .state) i in
           let f = answers ∙ head-answer part i (r .size) (r .decodes) h head in
           let w = response-room a from answers begins in
           omega arith
@@ -137,7 +141,7 @@ module _ (part : List ℕ) (m : Powered State) (log : List ℕ) (place : ℕ) (r
         ready = act-ready space (let w = room in let e = space-length in omega arith)
 
         pub entry-ready : Ready (m .card) (m .state) (askedBy part end h) part end space
-        entry-ready = rw (instruction-is, size-is) (carry-ready (m .card) (m .state) i part (r .size) space h ready t tested q)
+        entry-ready = rw (instruction-is, size-is) (carry-ready (m .card) (m .state) i part (r .size) space h ready b t halts tested q)
 
         pub entry-written : (c′ : List ℕ) (s′ : State) (tries : ℕ) (space′ : List ℕ)
             → Carried (m .card) (m .state) (askedBy part end h) space c′ s′ tries space′
@@ -147,7 +151,7 @@ module _ (part : List ℕ) (m : Powered State) (log : List ℕ) (place : ℕ) (r
           where
             w : Acted (m .card) (m .state) i space c′ (h .kind) a s′ tries space′
             w =
-                acted-carried (m .card) (m .state) i part (r .size) space h ready t tested q a c′ s′ tries space′ answers
+                acted-carried (m .card) (m .state) i part (r .size) space h ready b t halts tested q a c′ s′ tries space′ answers
                 (rw instruction-is at carried)
 
             answer : List ℕ
@@ -231,7 +235,7 @@ module _ (s : List ℕ) (start count : ℕ) (c₀ log₀ : List ℕ) (at place l
         }
 
     module _ (h : Head) (head : h ≡ headOf (partAt s at)) where
-      pub going-known : h .kind ≤ 14
+      pub going-known : (1 ≤ h .kind) × (h .kind ≤ 16)
       going-known = head-known (partAt s at) (next .command) (next .size) (next .next) h head
 
       -- the next record ends by the end of the records
@@ -254,7 +258,7 @@ module _ (s : List ℕ) (start count : ℕ) (c₀ log₀ : List ℕ) (at place l
 
       -- the entry is not longer than in full
       end-most : end ≤ place + fullEntry k
-      end-most = let q = end-same in let l = entry-length (powered c v) k in let g = given-most at88sc1608 v k in omega arith
+      end-most = let q = end-same in let l = entry-length (powered c v) k in let g = given-most at88sc1608 c v k in omega arith
 
       pub going-next : (h : Head) → h ≡ headOf (partAt s at) → (e : ℕ) → e ≡ 1 + fixedFields (h .kind) + dataLength (h .kind) (h .n)
           → Going s start count c₀ log₀ (at + e) end (left - 1) c′ v′ log′

@@ -5,6 +5,7 @@ ghost use Rattle.busy.specs.TimedState.{stateOf};
 ghost use Rattle.record.specs.DecodedRecord.{headOf};
 ghost use Rattle.session.specs.Run.{EntryReady, EntryWritten, RecordsReady, RecordsRun, LogReady, LogWritten};
 use busy::State;
+use busy::is_halted;
 use busy::is_ignored;
 use busy::power_on;
 use carry::carry_out;
@@ -41,27 +42,26 @@ fn write_entry(
     ensures { λ r. ⌜ EntryWritten (now (part .entry)) (powered (now (card .entry)) (stateOf state)) (now (log .entry)) place
         (now (card .exit)) (stateOf (r .state)) (r .end) (now (log .exit)) ⌝ }
 {
-    let volatile = state.volatile;
-    let zone = volatile.zone.0;
-    if is_ignored(state.busy, head.kind) {
+    let zone = state.volatile.zone.0;
+    let halted = is_halted(card, state.off);
+    if is_ignored(halted, state.busy, head.kind) {
         let end = put_header(log, place, head.kind + 128, 0, zone);
         return Entered { state, end };
     }
     let response = answer_length(head.kind, head.n) as usize;
     let from = put_header(log, place, head.kind, response, zone);
     let end = record_length(head.kind, head.n);
-    let done = carry_out(
-        card,
-        volatile,
-        state.busy,
-        head,
-        part,
-        end,
-        &mut log[from..],
-    );
+    let done = carry_out(card, state, head, part, end, &mut log[from..]);
     let after = done.state;
+    let volatile = after.volatile;
+    let tear = after.tear;
     Entered {
-        state: after,
+        state: State {
+            volatile,
+            busy: after.busy,
+            off: after.off,
+            tear,
+        },
         end: from + response,
     }
 }

@@ -1,7 +1,8 @@
 // The sizes of the card, of sessions and of logs, each under one name.
 
 // The card's map: where the configuration starts, its access registers, the authentication attempts counter, the cryptogram, the
-// passwords with their attempts counters, the fuse byte; and the length of the whole.
+// passwords with their attempts counters, the fuse byte, the staging bytes: the flag, what names a write, its values; and the length of
+// the whole.
 pub const CONFIGURATION: usize = 2048;
 
 pub const REGISTERS: usize = CONFIGURATION + 16;
@@ -14,7 +15,13 @@ pub const PASSWORDS: usize = CONFIGURATION + 64;
 
 pub const FUSES: usize = 2176;
 
-pub const CARD: usize = 2177;
+pub const FLAG: usize = 2177;
+
+pub const STAGED: usize = FLAG + 1;
+
+pub const VALUES: usize = FLAG + 4;
+
+pub const CARD: usize = 2189;
 
 // How many attempts counters there are: one for each selector, and that of authentication.
 pub const COUNTERS: usize = 17;

@@ -21,9 +21,9 @@ use Rattle.laws.specs.ReaderLaws.{next-within}
 use Rattle.laws.specs.RecordLaws.{decode-kind}
 use Rattle.properties.specs.SessionLaws.{fullTotal}
 use Rattle.model.specs.Reader.{recordsEnd, partAt, nextOf}
-use Rattle.model.specs.Refusal.{sessionLength, sessionTrailer, startOutOfRange, tooManyRecords, fuseByte, bytesLeft}
-use Rattle.model.specs.Session.{startOf, countOf, frame, Read, stopped, all, more, readFrom}
-use Rattle.model.specs.Single.{isFuseByte}
+use Rattle.model.specs.Refusal.{sessionLength, sessionTrailer, startOutOfRange, tooManyRecords, fuseByte, stagingBytes, bytesLeft}
+use Rattle.model.specs.Session.{startOf, countOf, wrongStaging, frame, Read, stopped, all, more, readFrom}
+use Rattle.model.specs.Single.{isFuseByte, stagingFits}
 use Rattle.record.specs.RefusalNumber.{refusalNumber, number-some}
 use Rattle.record.specs.declared.refusal.Refusal.{Refusal}
 use Rattle.validate.specs.Check.{Sized, unfit, sized, sizedOf, plus, checkOf}
@@ -66,9 +66,10 @@ module _ (s : List ℕ) where
                 rw (le-leb _ _ long, le-leb _ _ short, eq-eqb _ _ first, eq-eqb _ _ second, ← starts, le-leb _ _ low, le-leb _ _ high, ← counts, lt-ltb _ _ h)
 
             module _ (ok : Bool) (few : count ≤ mostRecords) (fuses : ok ≡ isFuseByte (at s fuseAt)) where
-              pub bad-fuses : not ok ≡ true → fuseByte ≡ frame s
+              -- what is left to be judged
+              behind : frame s ≡ cond (not ok) fuseByte (cond (wrongStaging s) stagingBytes 0)
               unfolding frame
-              bad-fuses t =
+              behind =
                   rw (
                     le-leb _ _ long,
                     le-leb _ _ short,
@@ -80,25 +81,17 @@ module _ (s : List ℕ) where
                     ← counts,
                     le-ltb _ _ few,
                     ← fuses,
-                    t,
                   )
 
-              pub well : not ok ≡ false → 0 ≡ frame s
-              unfolding frame
-              well t =
-                  rw (
-                    le-leb _ _ long,
-                    le-leb _ _ short,
-                    eq-eqb _ _ first,
-                    eq-eqb _ _ second,
-                    ← starts,
-                    le-leb _ _ low,
-                    le-leb _ _ high,
-                    ← counts,
-                    le-ltb _ _ few,
-                    ← fuses,
-                    t,
-                  )
+              pub bad-fuses : not ok ≡ true → fuseByte ≡ frame s
+              bad-fuses t = rw (behind, t)
+
+              module _ (ok′ : Bool) (fine : not ok ≡ false) (staging : ok′ ≡ stagingFits s) where
+                pub bad-staging : not ok′ ≡ true → stagingBytes ≡ frame s
+                bad-staging t = rw (behind, fine, ← staging, t)
+
+                pub well : not ok′ ≡ false → 0 ≡ frame s
+                well t = rw (behind, fine, ← staging, t)
 
 -- ---- the records
 

@@ -30,7 +30,7 @@ abbrev pub plus : ℕ → Sized → Sized
 plus t (unfit n) = unfit n
 plus t (sized n) = sized (t + n)
 
--- the whole session: 1 to 5, or the records
+-- the whole session: 1 to 5 and 16, or the records
 abbrev pub onFrame : List ℕ → ℕ → Sized
 onFrame s zero = sizedOf (recordsEnd (length s)) (readFrom (countOf s) s (startOf s))
 onFrame s (suc n) = unfit (suc n)

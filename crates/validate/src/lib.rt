@@ -1,4 +1,4 @@
-// A session checked whole before anything runs: 1 to 5, the records in turn, 9.
+// A session checked whole before anything runs: 1 to 5, 16, the records in turn, 9.
 ghost use mathlib.Core.Path.{_≡_};
 ghost use Prim.Native.Nat.{_≤_};
 ghost use lib.ListN.{length};
@@ -22,6 +22,7 @@ use sizes::GREATEST_SESSION;
 use sizes::LEAST_SESSION;
 use sizes::MOST_RECORDS;
 use sizes::TRAILER;
+use staging::staging_fits;
 
 // A refusal, or how long the entries of the log would be if every record were answered in full.
 pub enum Checked {
@@ -29,7 +30,8 @@ pub enum Checked {
     Entries(usize),
 }
 
-// What a session says beside its records: its length, its trailer, the start and the count of the records, the fuse byte.
+// What a session says beside its records: its length, its trailer, the start and the count of the records, the fuse byte, the
+// staging bytes.
 pub fn frame(session: &[u8]) -> Outcome
     ensures { λ r. ⌜ outcomeNumber r ≡ model.frame (now (session .entry)) ⌝ }
 {
@@ -59,6 +61,9 @@ pub fn frame(session: &[u8]) -> Outcome
     if !is_fuse_byte(session[FUSES]) {
         return Outcome::Refused(Refusal::FuseByte);
     }
+    if !staging_fits(session, 0) {
+        return Outcome::Refused(Refusal::StagingBytes);
+    }
     Outcome::Accepted
 }
 
@@ -74,7 +79,7 @@ pub fn check_records(session: &[u8], start: usize, count: usize) -> Checked
         match measure_at(session, at) {
             Measured::Refused(why) => return Checked::Refused(why),
             Measured::Whole(answer, length) => {
-                entries += header_length(true, session[at]) + answer as usize;
+                entries += header_length(session[at]) + answer as usize;
                 at += length;
                 left -= 1;
             }

@@ -6,13 +6,17 @@ use record::refusal::Refusal;
 // The others do not arise: the space has room for the longest session.
 pub fn print_meaning(why: Refusal) {
     let _ = match why {
-        Refusal::CardLength => write_all(STDERR_FILENO, b"the card has not 2,177 bytes"),
+        Refusal::CardLength => write_all(STDERR_FILENO, b"the card has not 2,189 bytes"),
         Refusal::SessionLength => write_all(
             STDERR_FILENO,
             b"the session would be longer than 65,536 bytes",
         ),
         Refusal::TooManyRecords => write_all(STDERR_FILENO, b"more than 4,096 records"),
         Refusal::FuseByte => write_all(STDERR_FILENO, b"the card's fuse byte is not 7, 6, 4 or 0"),
+        Refusal::StagingBytes => write_all(
+            STDERR_FILENO,
+            b"the card's staging flag is neither idle nor ready, or a ready write is beyond zone 7 or eight bytes",
+        ),
         Refusal::TitleLength => write_all(STDERR_FILENO, b"the title is longer than 255 bytes"),
         Refusal::UnknownKind => write_all(STDERR_FILENO, b"a record of an unknown kind"),
         Refusal::FieldOutOfRange => write_all(STDERR_FILENO, b"a record with a field out of range"),

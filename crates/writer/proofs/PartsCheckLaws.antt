@@ -12,8 +12,8 @@ use Rattle.model.specs.Lists.{at}
 use Rattle.model.specs.Call.{refused, whole}
 use Rattle.model.specs.Instruction.{Instruction}
 use Rattle.model.specs.Record.{decode}
-use Rattle.model.specs.Refusal.{sessionLength, tooManyRecords, fuseByte, bytesLeft, cardLength, titleLength}
-use Rattle.model.specs.Single.{isFuseByte}
+use Rattle.model.specs.Refusal.{sessionLength, tooManyRecords, fuseByte, stagingBytes, bytesLeft, cardLength, titleLength}
+use Rattle.model.specs.Single.{isFuseByte, stagingFits}
 use Rattle.model.specs.Writer.{Parts, sessionBytes, recordsRefusal, partsRefusal}
 use Rattle.laws.specs.RecordLaws.{decode-within}
 use Rattle.laws.specs.WriterLaws.{session-length}
@@ -90,11 +90,15 @@ module _ (p : Parts) where
   wrong-card n = rw (ne-eqb _ _ n)
 
   module _ (long : length (p .card) ≡ cardSize) where
-    pub too-long : room < length (p .title) + length (p .records) → sessionLength ≡ partsRefusal p
+    pub title-beyond : room < length (p .title) → sessionLength ≡ partsRefusal p
     unfolding partsRefusal
-    too-long h = let l = session-length p in rw (eq-eqb _ _ long, lt-ltb greatestSession (length (sessionBytes p)) (omega arith))
+    title-beyond h = let l = session-length p in rw (eq-eqb _ _ long, lt-ltb greatestSession (length (sessionBytes p)) (omega arith))
 
-    module _ (short : length (p .title) + length (p .records) ≤ room) where
+    pub records-beyond : length (p .title) ≤ room → room - length (p .title) < length (p .records) → sessionLength ≡ partsRefusal p
+    unfolding partsRefusal
+    records-beyond g h = let l = session-length p in rw (eq-eqb _ _ long, lt-ltb greatestSession (length (sessionBytes p)) (omega arith))
+
+    module _ (title-within : length (p .title) ≤ room) (records-within : length (p .records) ≤ room - length (p .title)) where
       fits : length (sessionBytes p) ≤ greatestSession
       fits = let l = session-length p in omega arith
 
@@ -107,11 +111,16 @@ module _ (p : Parts) where
         unfolding partsRefusal
         bad-fuses t = rw (eq-eqb _ _ long, le-ltb _ _ fits, le-ltb _ _ few, ← fuses, t)
 
-        module _ (good : not ok ≡ false) where
-          pub long-title : mostTitle < length (p .title) → titleLength ≡ partsRefusal p
+        module _ (ok′ : Bool) (good : not ok ≡ false) (staging : ok′ ≡ stagingFits (p .card)) where
+          pub bad-staging : not ok′ ≡ true → stagingBytes ≡ partsRefusal p
           unfolding partsRefusal
-          long-title h = rw (eq-eqb _ _ long, le-ltb _ _ fits, le-ltb _ _ few, ← fuses, good, lt-ltb _ _ h)
+          bad-staging t = rw (eq-eqb _ _ long, le-ltb _ _ fits, le-ltb _ _ few, ← fuses, good, ← staging, t)
 
-          pub records-decide : length (p .title) ≤ mostTitle → (n : ℕ) → n ≡ recordsRefusal (p .count) (p .records) → n ≡ partsRefusal p
-          unfolding partsRefusal
-          records-decide h n e = e ∙ rw (eq-eqb _ _ long, le-ltb _ _ fits, le-ltb _ _ few, ← fuses, good, le-ltb _ _ h)
+          module _ (well : not ok′ ≡ false) where
+            pub long-title : mostTitle < length (p .title) → titleLength ≡ partsRefusal p
+            unfolding partsRefusal
+            long-title h = rw (eq-eqb _ _ long, le-ltb _ _ fits, le-ltb _ _ few, ← fuses, good, ← staging, well, lt-ltb _ _ h)
+
+            pub records-decide : length (p .title) ≤ mostTitle → (n : ℕ) → n ≡ recordsRefusal (p .count) (p .records) → n ≡ partsRefusal p
+            unfolding partsRefusal
+            records-decide h n e = e ∙ rw (eq-eqb _ _ long, le-ltb _ _ fits, le-ltb _ _ few, ← fuses, good, ← staging, well, le-ltb _ _ h)

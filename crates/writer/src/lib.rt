@@ -16,6 +16,7 @@ use sizes::MOST_RECORDS;
 use sizes::MOST_TITLE;
 use sizes::TRAILER;
 use slices::copy;
+use staging::staging_fits;
 use trailer::put;
 
 // What is given back beside the space for the session.
@@ -45,7 +46,7 @@ pub fn records_refusal(records: &[u8], count: usize) -> Outcome
     Outcome::Accepted
 }
 
-// All that is refused but for want of space: 11, 1, 4, 5, 15, the records in turn, 9.
+// All that is refused but for want of space: 11, 1, 4, 5, 16, 15, the records in turn, 9.
 pub fn parts_refusal(card: &[u8], title: &[u8], records: &[u8], count: usize) -> Outcome
     ensures { λ r. ⌜ outcomeNumber r ≡ partsRefusal (parts (now (card .entry)) (now (title .entry)) (now (records .entry)) count) ⌝ }
 {
@@ -64,6 +65,9 @@ pub fn parts_refusal(card: &[u8], title: &[u8], records: &[u8], count: usize) ->
     }
     if !is_fuse_byte(card[FUSES]) {
         return Outcome::Refused(Refusal::FuseByte);
+    }
+    if !staging_fits(card, 0) {
+        return Outcome::Refused(Refusal::StagingBytes);
     }
     if MOST_TITLE < title.len() {
         return Outcome::Refused(Refusal::TitleLength);

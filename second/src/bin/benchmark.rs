@@ -113,7 +113,11 @@ fn written(name: &str, session: &[u8], space: &mut [u8]) {
 /// 200 sessions of 60 records each, chosen one after the other by `next`.
 fn mix(next: fn(&mut Rng, &[u8], &[u8]) -> Vec<u8>) -> Vec<Vec<u8>> {
     let mut rng = Rng::new(2024);
-    (0..200).map(|_| gen::session_of(&mut rng, 60, next)).collect()
+    let session = |_| {
+        let card = gen::card(&mut rng);
+        gen::session_of(&mut rng, card, 60, next)
+    };
+    (0..200).map(session).collect()
 }
 
 /// A session of 4,096 records on a sealed card: so many at a time, over and over.
@@ -129,7 +133,7 @@ fn polled(author: Author) -> Author {
 
 fn main() {
     let mut log = vec![0; 1_100_000];
-    let waiting = mix(|rng, card, state| gen::record(rng, card, state, 100));
+    let waiting = mix(|rng, card, state| gen::of_first_fourteen(rng, card, state, 100));
     let power_cycled = mix(gen::power_cycled);
     let empty = Author::new(0).session();
     let short = most(4, |a| a.power().select(3).read_fuses().begin());
@@ -140,6 +144,7 @@ fn main() {
     let passwords = most(4, |a| a.right(9).power().wrong(9).power());
     let passwords_and_waits = most(4, |a| a.right(9).ready().wrong(9).ready());
     let writes = most(8, polled);
+    let staged = Author::new(0).times(512, |a| a.staged_write(0, b"survives").ready()).session();
     let met_busy = most(16, |a| a.write(0, b"busy").times(14, |a| a.read(0x80, 0)).ready());
 
     println!(
@@ -157,6 +162,7 @@ fn main() {
     sessions("4,096 passwords, every other wrong", &vec![passwords; 2], &mut log);
     sessions("4,096 passwords with waits", &vec![passwords_and_waits; 2], &mut log);
     sessions("512 writes, polled until ready", &[writes], &mut log);
+    sessions("512 staged writes of 8, waited for", &[staged], &mut log);
     sessions("4,096 records, most met while busy", std::slice::from_ref(&met_busy), &mut log);
     log_reads("log reads, 60 records", &power_cycled[0], &mut log);
     log_reads("log reads, 4,096 short records", &short, &mut log);

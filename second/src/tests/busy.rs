@@ -3,7 +3,7 @@
 
 use super::*;
 
-/// Records of every kind but 1, 13 and 14, all of which would do something on a ready card.
+/// Records of every kind but 1, 13, 14 and 16, all of which would do something on a ready card.
 pub fn not_heeded() -> Vec<Vec<u8>> {
     let mut records: Vec<Vec<u8>> = vec![
         vec![2],
@@ -18,6 +18,7 @@ pub fn not_heeded() -> Vec<Vec<u8>> {
         vec![11],
         b"\x0C\x00rejected".to_vec(),
         b"\x0C\x01accepted".to_vec(),
+        vec![15, 0x1E, 4, 1, 2, 3, 4],
     ];
     for selector in 0..16 {
         records.push([&[10, selector][..], &password(selector)].concat());
@@ -26,10 +27,10 @@ pub fn not_heeded() -> Vec<Vec<u8>> {
     records
 }
 
-/// Every volatile state that is ready, at zone 3.
+/// Every state of a ready card, at zone 3.
 fn ready_states() -> impl Iterator<Item = [u8; STATE]> {
     let actives = (0..17).map(|a| if a < 16 { [1, a] } else { [0, 0] });
-    actives.flat_map(|[some, selector]| (0..3).map(move |auth| [3, some, selector, auth, 0]))
+    actives.flat_map(|[some, selector]| (0..3).map(move |auth| on([3, some, selector, auth, 0])))
 }
 
 impl Table {
@@ -58,17 +59,20 @@ fn zone_writes_make_it_busy_forbidden_or_not() {
     let (mut stored, mut kept) = (0, 0);
     for (fuses, register) in [7, 6, 4, 0].into_iter().flat_map(|f| (0..=255).map(move |r| (f, r))) {
         for selector in [0, 5, 7, 13] {
-            let mut t = Table::new(fuses).register(register).active(selector).set(0, 0);
-            assert_eq!(t.busy_after(&[5, 0, 1, 0xAB]), 10);
-            match t.card[0] {
-                0 => kept += 1,
-                _ => stored += 1,
+            for kind in [5, 15] {
+                let mut t = Table::new(fuses).register(register).active(selector).set(0, 0);
+                assert_eq!(t.busy_after(&[kind, 0, 1, 0xAB]), 10);
+                match t.card[0] {
+                    0 => kept += 1,
+                    _ => stored += 1,
+                }
             }
         }
     }
-    assert!(stored > 500 && kept > 500);
+    assert!(stored > 1000 && kept > 1000);
     // Bytes that change nothing take their time too.
     assert!(Table::new(7).gets_busy(&[5, 0, 1, 0xFF]));
+    assert!(Table::new(7).gets_busy(&[15, 0, 1, 0xFF]));
 }
 
 #[test]
@@ -144,8 +148,18 @@ fn authentication_makes_it_busy_unless_used_up_or_not_begun() {
 
 #[test]
 fn nothing_else_makes_it_busy() {
-    let records: [&[u8]; 9] =
-        [&[1], &[2], &[3, 4], &[4, 0, 0], &[6, 0, 128], &[8], &[13, 1], &[13, 255], &[14]];
+    let records: [&[u8]; 10] = [
+        &[1],
+        &[2],
+        &[3, 4],
+        &[4, 0, 0],
+        &[6, 0, 128],
+        &[8],
+        &[13, 1],
+        &[13, 255],
+        &[14],
+        &[16, 0, 0],
+    ];
     for (fuses, state) in [7, 6, 4, 0].into_iter().flat_map(|f| ready_states().map(move |s| (f, s)))
     {
         for record in records {
@@ -253,7 +267,7 @@ fn busy_times_up_to_ten_are_states() {
     for state in ready_states() {
         for busy in 0..=255 {
             let t = Table { card: fresh_card(4), state }.busy(busy);
-            for record in [&[1][..], &[8], &[13, 1], &[14], &[15], &[]] {
+            for record in [&[1][..], &[8], &[13, 1], &[14], &[16, 0, 0], &[17], &[]] {
                 if busy > 10 {
                     assert_eq!(refused(&t.card, &t.state, record, 1), 12, "{busy}");
                 }
@@ -263,7 +277,7 @@ fn busy_times_up_to_ten_are_states() {
             }
         }
     }
-    for length in (0..12).filter(|&length| length != 5) {
+    for length in (0..20).filter(|&length| length != STATE) {
         for byte in [0, 1, 10] {
             let mut state = vec![0; length];
             state.iter_mut().skip(4).for_each(|b| *b = byte);
@@ -279,12 +293,13 @@ fn refusals_while_busy_keep_their_order() {
     let (card, odd) = (fresh_card(6), fresh_card(5));
     #[rustfmt::skip]
     let bad = [
-        (&[][..], 8), (&[0], 6), (&[15], 6), (&[132, 0, 1], 6), (&[255], 6),
+        (&[][..], 8), (&[0], 6), (&[17], 6), (&[132, 0, 1], 6), (&[255], 6),
         (&[3], 8), (&[3, 8], 7), (&[4, 0], 8), (&[5, 0, 0], 7), (&[5, 0, 17], 7),
         (&[5, 0, 2, 1], 8), (&[6, 0x7F, 2], 7), (&[7, 0x80, 1, 1], 7), (&[10, 16, 1, 2, 3], 7),
         (&[10, 0, 1, 2], 8), (&[12, 2], 7), (&[12, 1, 0], 8), (&[13], 8), (&[13, 0], 7),
         (&[1, 0], 9), (&[2, 0], 9), (&[4, 0, 0, 0], 9), (&[8, 8], 9), (&[13, 1, 1], 9),
-        (&[14, 0], 9),
+        (&[14, 0], 9), (&[15, 0, 9], 7), (&[15, 0, 2, 1], 8), (&[15, 0, 1, 1, 1], 9), (&[16, 0], 8),
+        (&[16, 0, 0, 0], 9),
     ];
     for (record, number) in bad {
         assert_eq!(refused(&odd[1..], &above, record, 0), 11);
@@ -301,10 +316,10 @@ fn no_space_is_too_short_for_what_is_ignored() {
         assert_eq!(refused(&fresh_card(6), &NONE, record, 0), 10);
         for space in 0..300 {
             let (mut card, mut response) = (fresh_card(6), vec![0xEE; space]);
-            let mut state = [2, 1, 9, 1, 1];
+            let mut state = on([2, 1, 9, 1, 1]);
             let result = encoded::at88sc1608_command(&mut card, &mut state, record, &mut response);
             assert_eq!(result, u64::from(record[0] + 128) << 32);
-            assert_eq!((card, state), (fresh_card(6), [2, 1, 9, 1, 1]));
+            assert_eq!((card, state), (fresh_card(6), on([2, 1, 9, 1, 1])));
             assert!(response.iter().all(|&b| b == 0xEE));
         }
     }
@@ -374,7 +389,7 @@ fn every_kind_is_logged_as_it_was_met() {
         let busy = Author::new(7).begin().record(&record).session();
         assert_eq!(logged(&busy).0[..6], [11, 0, 0, record[0] + 128, 0, 0]);
     }
-    for record in [&[1][..], &[13, 1], &[14]] {
+    for record in [&[1][..], &[13, 1], &[14], &[16, 0, 0]] {
         let busy = Author::new(7).begin().record(record).session();
         assert_eq!(logged(&busy).0[3], record[0]);
     }
@@ -436,23 +451,23 @@ fn a_log_of_a_busy_card_is_read() {
 
 #[test]
 fn every_kind_of_entry_has_its_lengths() {
-    for (kind, mark) in (0..=255).flat_map(|kind| [(kind, PLAIN), (kind, ZONED)]) {
-        let zone = (mark == ZONED && [4, 5, 132, 133].contains(&kind)).then_some(6);
+    for kind in 0..=255 {
+        let zone = [4, 5, 132, 133].contains(&kind).then_some(6);
         for length in (0..=300).chain([512, 0x0400, 0x8000, 0xFFFF]) {
             let fits = match kind {
                 2 => length == 4,
                 4 => (1..=256).contains(&length),
                 6 => (1..=128).contains(&length),
                 8 | 14 => length == 1,
-                1..=13 => length == 0,
-                // Any kind but 1, 13 and 14.
-                129..=142 => length == 0 && ![1, 13, 14].contains(&(kind - 128)),
+                1..=16 => length == 0,
+                // Any kind but 1 and 16.
+                130..=143 => length == 0,
                 _ => false,
             };
-            let log = log_of(&entry(kind, zone, &vec![0; length]), 1, mark);
+            let log = log_of(&entry(kind, zone, &vec![0; length]), 1, ZONED);
             let found = log::answer(&log, 0).map(<[u8]>::len);
             let expected = if fits { Ok(length) } else { Err(Refusal::Log) };
-            assert_eq!(found, expected, "kind {kind}, length {length}, {mark:02X?}");
+            assert_eq!(found, expected, "kind {kind}, length {length}");
         }
     }
 }
@@ -483,7 +498,7 @@ fn two_sealed_cards_are_busy_at_the_same_moments() {
 fn generated_sessions_meet_ready_and_busy_cards() {
     let mut rng = gen::Rng::new(7);
     let mut met = [0; 256];
-    for _ in 0..300 {
+    for _ in 0..800 {
         let session = gen::session(&mut rng, 60);
         let mut log = vec![0; 30_000];
         let length = run(&session, &mut log).unwrap();
@@ -491,10 +506,10 @@ fn generated_sessions_meet_ready_and_busy_cards() {
             met[usize::from(entry.unwrap().kind)] += 1;
         }
     }
-    for kind in (1..=14).chain(130..=140) {
+    for kind in (1..=16).chain(130..=143) {
         assert!(met[kind] >= 50, "kind {kind}: {}", met[kind]);
     }
-    let ignored: u32 = met[130..=140].iter().sum();
+    let ignored: u32 = met[130..=143].iter().sum();
     let all: u32 = met.iter().sum();
     assert!((all / 10..all / 2).contains(&ignored), "{ignored} of {all}");
 }

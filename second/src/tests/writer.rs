@@ -2,14 +2,15 @@
 //! what was written, and that two inputs never give one session.
 
 use super::*;
-use crate::layout::LONGEST_TITLE;
+use crate::layout::{FLAG, LONGEST_TITLE, STAGED_ZONE};
+use crate::staging::READY;
 use crate::writer::{parts, write_session, Parts};
 
 /// Space for any session and more.
 const ENOUGH: usize = LONGEST_SESSION + 500;
 
 /// The refusals in the order in which they are judged; 6, 7 and 8 as the records come.
-const ORDER: [u8; 10] = [11, 1, 4, 5, 15, 6, 7, 8, 9, 10];
+const ORDER: [u8; 11] = [11, 1, 4, 5, 16, 15, 6, 7, 8, 9, 10];
 
 /// Writes into a space of this length. A refusal changes nothing, and the bytes behind a session
 /// stay.
@@ -63,15 +64,15 @@ fn session_of_length(length: usize, title: usize) -> Author {
 fn sessions_by_hand() {
     let card = fresh_card(4);
     let input = Parts { card: &card, title: b"Fuses", records: &[8, 14, 3, 5], count: 3 };
-    let end = [0x86, 0x08, 0, 0, 3, 0, 0x53, 0x45];
+    let end = [0x92, 0x08, 0, 0, 3, 0, 0x53, 0x45];
     let expected = [&card[..], b"Fuses", &[8, 14, 3, 5], &end].concat();
     assert_eq!(write(input, ENOUGH), Ok(expected));
     let nothing = Parts { title: &[], records: &[], count: 0, ..input };
-    let end = [0x81, 0x08, 0, 0, 0, 0, 0x53, 0x45];
+    let end = [0x8D, 0x08, 0, 0, 0, 0, 0x53, 0x45];
     assert_eq!(write(nothing, ENOUGH), Ok([&card[..], &end].concat()));
     let (title, records) = ([b'-'; 255], [8; 4096]);
     let most = Parts { title: &title, records: &records, count: 4096, ..input };
-    let end = [0x80, 0x09, 0, 0, 0x00, 0x10, 0x53, 0x45];
+    let end = [0x8C, 0x09, 0, 0, 0x00, 0x10, 0x53, 0x45];
     assert_eq!(write(most, ENOUGH), Ok([&card[..], &title, &records, &end].concat()));
 }
 
@@ -162,8 +163,9 @@ fn refusals_alone() {
     let many = Author::new(7).times(4097, Author::poll);
     assert_eq!(refusal(many.parts()), 4);
     assert_eq!(refusal(Parts { card: &fresh_card(5), ..sound }), 5);
+    assert_eq!(refusal(author.clone().put(FLAG, &[0xFD]).parts()), 16);
     assert_eq!(refusal(Parts { title: &[b'.'; 256], ..sound }), 15);
-    for (record, number) in [(&[15][..], 6), (&[3, 8], 7), (&[4, 1], 8)] {
+    for (record, number) in [(&[17][..], 6), (&[3, 8], 7), (&[4, 1], 8)] {
         assert_eq!(refusal(author.clone().record(record).parts()), number);
     }
     let left = [sound.records, &[8]].concat();
@@ -172,7 +174,7 @@ fn refusals_alone() {
 }
 
 #[test]
-fn cards_of_2177_bytes() {
+fn cards_of_2189_bytes() {
     let author = model();
     for length in (0..2 * CARD).filter(|&length| length != CARD) {
         for fuses in [7, 5] {
@@ -180,7 +182,9 @@ fn cards_of_2177_bytes() {
             assert_eq!(refusal(Parts { card: &card, ..author.parts() }), 11, "{length}");
         }
     }
-    accepted(Parts { card: &[7; CARD], ..author.parts() });
+    let mut card = [7; CARD];
+    card[FLAG] = 0xFF;
+    accepted(Parts { card: &card, ..author.parts() });
 }
 
 #[test]
@@ -308,20 +312,21 @@ fn judged_alike(records: &[u8], count: u16) -> u8 {
 #[test]
 fn records_are_judged_as_in_a_session() {
     let mut met = BTreeSet::new();
-    for (kind, field) in (0..=16).flat_map(|kind| (0..=255).map(move |field| (kind, field))) {
+    for (kind, field) in (0..=18).flat_map(|kind| (0..=255).map(move |field| (kind, field))) {
         for length in 0..=13 {
             let record = &[kind, field, 9, 1, 2, 3, 4, 5, 6, 7, 8, 9, 10][..length];
             met.insert(judged_alike(record, 1));
         }
     }
-    for kind in 15..=255 {
+    for kind in 17..=255 {
         assert_eq!(judged_alike(&[kind], 1), 6);
         assert_eq!(judged_alike(&[kind, 0, 1], 1), 6);
     }
-    for (kind, count) in [4, 5, 6, 7].into_iter().flat_map(|kind| (0..=255).map(move |n| (kind, n)))
+    for (kind, count) in
+        [4, 5, 6, 7, 15].into_iter().flat_map(|kind| (0..=255).map(move |n| (kind, n)))
     {
         for address in [0, 0x7F, 0x80, 0xFF] {
-            for data in [0, 1, 15, 16, 17, usize::from(count)] {
+            for data in [0, 1, 7, 8, 9, 15, 16, 17, usize::from(count)] {
                 let record = [&[kind, address, count][..], &vec![8; data]].concat();
                 met.insert(judged_alike(&record, 1));
             }
@@ -332,7 +337,8 @@ fn records_are_judged_as_in_a_session() {
 
 #[test]
 fn records_are_judged_in_turn() {
-    let bad: [(&[u8], u8); 4] = [(&[0], 6), (&[15], 6), (&[3, 8], 7), (&[13, 0], 7)];
+    let bad: [(&[u8], u8); 5] =
+        [(&[0], 6), (&[17], 6), (&[3, 8], 7), (&[13, 0], 7), (&[15, 0, 9], 7)];
     for ((first, number), (second, _)) in bad.into_iter().flat_map(|a| bad.map(|b| (a, b))) {
         for before in [&[][..], &[8], &[5, 0, 1, 0]] {
             let records = [before, first, second].concat();
@@ -350,9 +356,10 @@ fn records_are_judged_in_turn() {
 fn a_record_ends_with_the_records() {
     // The trailer's bytes are no record's.
     #[rustfmt::skip]
-    let cut: [&[u8]; 12] = [
+    let cut: [&[u8]; 15] = [
         &[3], &[4], &[4, 0], &[5, 0], &[5, 0, 1], &[5, 0, 2, 1], &[6, 0], &[7, 0, 4, 1, 2, 3],
-        &[10, 0], &[10, 0, 1, 2], &[12, 1, 1, 2, 3, 4, 5, 6, 7], &[13],
+        &[10, 0], &[10, 0, 1, 2], &[12, 1, 1, 2, 3, 4, 5, 6, 7], &[13], &[15, 0],
+        &[15, 0, 8, 1, 2, 3, 4, 5, 6, 7], &[16, 0],
     ];
     for cut in cut {
         assert_eq!(judged_alike(cut, 1), 8, "{cut:02X?}");
@@ -384,10 +391,15 @@ fn space_for_the_session() {
 fn with_faults(numbers: &[u8], variant: usize) -> Result<Vec<u8>, u8> {
     let has = |number| numbers.contains(&number);
     let author = Author::new(if has(5) { [5, 1, 255][variant] } else { 6 });
+    let author = if has(16) {
+        author.put(FLAG, [&[0xFD][..], &[READY, 8], &[READY, 0, 0, 9]][variant])
+    } else {
+        author
+    };
     // More records than there may be, also if the count were not judged.
     let author = author.times(if has(4) { 4097 } else { 2 }, Author::read_fuses);
     let mut author = if has(1) { filling(author, LONGEST_SESSION) } else { author };
-    for (number, record) in [(6, &[15][..]), (7, &[3, 8]), (8, &[4, 0])] {
+    for (number, record) in [(6, &[17][..]), (7, &[3, 8]), (8, &[4, 0])] {
         if has(number) {
             author = author.record(record);
         }
@@ -402,7 +414,7 @@ fn with_faults(numbers: &[u8], variant: usize) -> Result<Vec<u8>, u8> {
         count = [count, 0x1_0000, u64::MAX][variant];
     }
     if has(9) {
-        records.push([8, 0, 15][variant]);
+        records.push([8, 0, 17][variant]);
     }
     let title = vec![b'.'; if has(15) { [256, 300, 4096][variant] } else { [0, 20, 255][variant] }];
     let input = Parts { card: &card, title: &title, records: &records, count };
@@ -429,7 +441,7 @@ fn every_pair_of_refusals() {
             pairs += 1;
         }
     }
-    assert_eq!(pairs, 3 * (45 - 4));
+    assert_eq!(pairs, 3 * (55 - 4));
 }
 
 #[test]
@@ -508,11 +520,15 @@ fn no_two_inputs_give_one_session() {
 
 #[test]
 fn no_two_cards_give_one_session() {
-    let author = model();
+    let author = model().put(STAGED_ZONE, &[2, 0x1E, 3]);
     let mut written = Written::default();
     for place in 0..CARD {
         let mut card = author.parts().card.to_vec();
-        card[place] = if place == FUSES { 6 } else { card[place] ^ 0x10 };
+        card[place] = match place {
+            FUSES => 6,
+            FLAG => READY,
+            _ => card[place] ^ 0x10,
+        };
         assert!(written.add(Parts { card: &card, ..author.parts() }));
     }
     assert!(written.add(author.parts()));

@@ -1,5 +1,5 @@
-//! The zone in a log: which entries name it, which zone that is, log space with it, and logs of
-//! both layouts, each judged by its own.
+//! The zone in a log: which entries name it, which zone that is, log space with it, and that a log
+//! without zones is none.
 
 use super::busy::{logged, not_heeded};
 use super::*;
@@ -76,7 +76,7 @@ fn last_entry(author: &Author, record: &[u8]) -> Vec<u8> {
 
 #[test]
 fn only_zone_reads_and_writes_name_a_zone() {
-    let acting = [vec![1], vec![13, 1], vec![14]];
+    let acting = [vec![1], vec![13, 1], vec![14], vec![16, 0, 0]];
     for (record, zone) in not_heeded()
         .into_iter()
         .chain(acting)
@@ -133,23 +133,18 @@ fn the_zone_is_that_before_the_record() {
 }
 
 #[test]
-fn the_same_bytes_under_both_endings() {
-    // A zone write and a zone read that answers 0; or a write of zone 4 and a power cycle.
+fn one_ending_alone_is_a_log() {
+    // Without zones a write and a read that answers 0; with them a write of zone 4 and a power
+    // cycle.
     let entries = [5, 0, 0, 4, 1, 0, 0];
-    let (plain, zoned) = (log_of(&entries, 2, PLAIN), log_of(&entries, 2, ZONED));
-    assert_eq!([0, 1].map(|number| log::find(&plain, number)), [Ok(3..3), Ok(6..7)]);
-    assert_eq!([0, 1].map(|number| log::find(&zoned, number)), [Ok(4..4), Ok(7..7)]);
-    assert_eq!(log::answer(&plain, 1), Ok(&[0][..]));
-    assert_eq!(encoded::at88sc1608_answer(&plain, 1), 1 << 8 | 6 << 40);
-    assert_eq!(encoded::at88sc1608_answer(&zoned, 1), 7 << 40);
-    for log in [plain, zoned] {
-        assert_eq!(log::find(&log, 2), Err(Refusal::NoSuchAnswer));
-    }
-    let mut log = log_of(&entries, 2, PLAIN);
+    let mut log = log_of(&entries, 2, ZONED);
+    assert_eq!([0, 1].map(|number| log::find(&log, number)), [Ok(4..4), Ok(7..7)]);
+    assert_eq!(encoded::at88sc1608_answer(&log, 1), 7 << 40);
+    assert_eq!(log::find(&log, 2), Err(Refusal::NoSuchAnswer));
     let at = log.len() - 2;
     for ending in 0..=0xFFFFu16 {
         log[at..].copy_from_slice(&ending.to_be_bytes());
-        let expected = if [0x4C4F, 0x4C50].contains(&ending) { Ok(()) } else { Err(Refusal::Log) };
+        let expected = if ending == 0x4C50 { Ok(()) } else { Err(Refusal::Log) };
         assert_eq!(log::find(&log, 1).map(|_| ()), expected, "{ending:04X}");
     }
 }
@@ -176,14 +171,14 @@ fn zone_bytes_up_to_seven() {
 }
 
 #[test]
-fn each_ending_has_its_own_layout() {
-    for kind in (1..=14).chain(130..=140) {
+fn zones_stand_where_they_belong() {
+    for kind in (1..=16).chain(130..=143) {
         let response = vec![0; [0, 0, 4, 0, 3, 0, 2, 0, 1].get(kind).copied().unwrap_or(0)];
         let response = if kind == 14 { vec![1] } else { response };
         let naming = NAMING.contains(&(kind as u8));
         for (zone, mark) in [None, Some(5)].into_iter().flat_map(|z| [(z, PLAIN), (z, ZONED)]) {
             let log = log_of(&entry(kind as u8, zone, &response), 1, mark);
-            let good = zone.is_some() == (naming && mark == ZONED);
+            let good = mark == ZONED && zone.is_some() == naming;
             let expected = if good { Ok(&response[..]) } else { Err(Refusal::Log) };
             assert_eq!(log::answer(&log, 0), expected, "kind {kind}, {zone:?}, {mark:02X?}");
         }
@@ -202,8 +197,6 @@ fn the_zone_is_cut_off_at_the_card() {
             assert_eq!(log::find(&log, 0), Err(Refusal::Log), "kind {kind}, {length} bytes");
         }
         assert_eq!(log::answer(&log_of(&whole, 1, ZONED), 0), Ok(response));
-        let plain = log_of(&entry(kind, None, response), 1, PLAIN);
-        assert_eq!(log::answer(&plain, 0), Ok(response));
         for count in [0, 2] {
             assert_eq!(log::find(&log_of(&whole, count, ZONED), 0), Err(Refusal::Log));
         }
@@ -288,7 +281,7 @@ fn samples_name_every_zone() {
 fn generated_sessions_name_every_zone() {
     let mut rng = gen::Rng::new(5);
     let mut met = HashMap::new();
-    for _ in 0..300 {
+    for _ in 0..500 {
         for named in named(&gen::zone_session(&mut rng, 60)) {
             *met.entry(named).or_insert(0) += 1;
         }
@@ -299,9 +292,8 @@ fn generated_sessions_name_every_zone() {
 }
 
 #[test]
-fn logs_without_zones_answer_the_same() {
+fn logs_without_zones_are_none() {
     let mut rng = gen::Rng::new(6);
-    let mut swapped = [0; 2];
     for _ in 0..300 {
         let session = gen::zone_session(&mut rng, 20);
         let mut log = vec![0; 10_000];
@@ -309,14 +301,10 @@ fn logs_without_zones_answer_the_same() {
         log.truncate(length);
         let plain = gen::without_zones(&log);
         assert_eq!(log.len() - plain.len(), named(&session).len());
+        log[length - 1] = 0x4F;
         for number in 0..=20 {
-            assert_eq!(log::answer(&plain, number), log::answer(&log, number));
-        }
-        // Under the other's ending it is another log, or none.
-        for mut log in [log, plain] {
-            *log.last_mut().unwrap() ^= 0x4F ^ 0x50;
-            swapped[usize::from(log::find(&log, 0).is_ok())] += 1;
+            assert_eq!(log::answer(&plain, number), Err(Refusal::Log));
+            assert_eq!(log::answer(&log, number), Err(Refusal::Log));
         }
     }
-    assert!(swapped[0] > 550, "{swapped:?}");
 }

@@ -1,16 +1,16 @@
 //! Busy cards on both: every kind at every busy time, every wait, what makes a card busy and what
 //! does not, refusals meanwhile, sessions and their logs, two sealed cards.
 
-use second::author::{fresh_card, password, Author};
+use second::author::{fresh_card, on, password, Author};
 use second::gen::{self, Closed, Rng};
-use second::layout::{AAC, CONFIGURATION, FUSES, SHORTEST_LOG, STATE};
+use second::layout::{AAC, CONFIGURATION, FLAG, FUSES, SHORTEST_LOG, STATE};
 use second::{author, session};
 
 use crate::{accepted, both, busy_if, marked_card, seeds, states, Met, FIXED, STAGES};
 
 /// Records of every kind, some of them in several ways.
-fn some_of_each() -> Vec<Vec<u8>> {
-    let plain: [&[u8]; 22] = [
+pub fn some_of_each() -> Vec<Vec<u8>> {
+    let plain: [&[u8]; 26] = [
         &[1],
         &[2],
         &[3, 6],
@@ -33,6 +33,10 @@ fn some_of_each() -> Vec<Vec<u8>> {
         &[13, 10],
         &[13, 255],
         &[14],
+        &[15, 0x1E, 4, 1, 2, 3, 4],
+        &[15, 0xFF, 1, 9],
+        &[16, 8, 0x5A],
+        &[16, 255, 0xFF],
     ];
     let right = [0, 7, 13, 15].map(|selector| [&[10, selector][..], &password(selector)].concat());
     plain.map(<[u8]>::to_vec).into_iter().chain(right).collect()
@@ -51,15 +55,15 @@ pub fn response_length(record: &[u8]) -> usize {
 
 /// Whether a card is to be too busy for a record.
 fn too_busy(state: [u8; STATE], record: &[u8]) -> bool {
-    state[4] > 0 && !matches!(record[0], 1 | 13 | 14)
+    state[4] > 0 && !matches!(record[0], 1 | 13 | 14 | 16)
 }
 
 /// The busy time that is to follow on a record, if the card is not too busy for it.
 fn busy_after(card: &[u8], state: [u8; STATE], record: &[u8]) -> u8 {
     match *record {
         [13, milliseconds] => state[4].saturating_sub(milliseconds),
-        [14] => state[4],
-        [5 | 7, ..] => 10,
+        [14] | [16, ..] => state[4],
+        [5 | 7 | 15, ..] => 10,
         [9] => busy_if(state[1..3] == [1, 7] && card[FUSES] != 0),
         [10, selector, ..] => busy_if(card[author::counter(selector)] != 0),
         [11] => busy_if(card[AAC] != 0),
@@ -95,11 +99,10 @@ fn every_kind_at_every_busy_time() {
             card[author::counter(selector)] = counters;
         }
         card[AAC] = counters;
-        for [zone, some, selector, auth, _] in states(3) {
-            for busy in 0..=10 {
-                for record in some_of_each() {
-                    meet(&card, [zone, some, selector, auth, busy], &record);
-                }
+        for (mut state, busy) in states(3).into_iter().flat_map(|s| (0..=10).map(move |b| (s, b))) {
+            state[4] = busy;
+            for record in some_of_each() {
+                meet(&card, state, &record);
             }
         }
     }
@@ -109,7 +112,7 @@ fn every_kind_at_every_busy_time() {
 fn every_wait_at_every_busy_time() {
     for busy in 0..=255 {
         for milliseconds in 0..=255 {
-            let mut state = [2, 1, 9, 1, busy];
+            let mut state = on([2, 1, 9, 1, busy]);
             let record = [13, milliseconds];
             let result = both::command(FIXED, &mut marked_card(4), &mut state, &record, 0);
             if busy > 10 {
@@ -118,7 +121,7 @@ fn every_wait_at_every_busy_time() {
                 assert_eq!(result, 7);
             } else {
                 assert_eq!(result, accepted(13, 0, 0));
-                assert_eq!(state, [2, 1, 9, 1, busy.saturating_sub(milliseconds)]);
+                assert_eq!(state, on([2, 1, 9, 1, busy.saturating_sub(milliseconds)]));
             }
         }
     }
@@ -127,9 +130,10 @@ fn every_wait_at_every_busy_time() {
 #[test]
 fn every_length_and_fifth_byte_of_a_state() {
     for record in some_of_each() {
-        for (length, byte) in (0..=8).flat_map(|length| (0..=255).map(move |byte| (length, byte))) {
-            let mut state = vec![1, 1, 7, 1];
-            state.resize(length, byte);
+        for (length, byte) in (0..=12).flat_map(|length| (0..=255).map(move |byte| (length, byte)))
+        {
+            let mut state = on([1, 1, 7, 1, byte]).to_vec();
+            state.resize(length, 0);
             let result = both::command(FIXED, &mut marked_card(6), &mut state, &record, 256);
             assert_eq!(result == 12, length != STATE || byte > 10, "{length}, {byte}");
             assert_eq!(result & 0xFF == 0, result != 12);
@@ -139,19 +143,23 @@ fn every_length_and_fifth_byte_of_a_state() {
 
 #[test]
 fn every_set_of_faults_in_a_call() {
-    let bad: [(&[u8], u64); 6] =
-        [(&[15], 6), (&[132], 6), (&[3, 8], 7), (&[5, 0, 17], 7), (&[13, 0], 7), (&[12, 2], 7)];
-    for (faults, busy) in (0..64).flat_map(|faults| [0, 1, 10].map(|busy| (faults, busy))) {
+    #[rustfmt::skip]
+    let bad: [(&[u8], u64); 7] = [
+        (&[17], 6), (&[132], 6), (&[3, 8], 7), (&[5, 0, 17], 7), (&[13, 0], 7), (&[12, 2], 7),
+        (&[15, 0, 9], 7),
+    ];
+    for (faults, busy) in (0..128).flat_map(|faults| [0, 1, 10].map(|busy| (faults, busy))) {
         let has = |bit: u32| faults >> bit & 1 == 1;
         for (bad, number) in bad {
             let mut card = fresh_card(if has(1) { 5 } else { 6 });
+            card[FLAG] = if has(6) { 0xFD } else { 0xFF };
             card.truncate(card.len() - usize::from(has(0)));
-            let mut state = [0, 0, 0, 0, if has(2) { 11 + busy } else { busy }];
+            let mut state = on([0, 0, 0, 0, if has(2) { 11 + busy } else { busy }]);
             let mut record = if has(3) { bad.to_vec() } else { vec![8] };
             record.resize(record.len() + usize::from(has(4)), 0);
             let space = usize::from(!has(5));
             let result = both::command(FIXED, &mut card, &mut state, &record, space);
-            let refusals = [(0, 11), (1, 5), (2, 12), (3, number), (4, 9)];
+            let refusals = [(0, 11), (1, 5), (6, 16), (2, 12), (3, number), (4, 9)];
             let first = refusals.into_iter().find(|&(bit, _)| has(bit));
             let expected = match first {
                 Some((_, number)) => number,
@@ -168,7 +176,7 @@ fn every_set_of_faults_in_a_call() {
 fn every_cut_of_a_record_while_busy() {
     for record in some_of_each() {
         for (length, busy) in (0..record.len()).flat_map(|length| [(length, 0), (length, 7)]) {
-            let mut state = [0, 0, 0, 0, busy];
+            let mut state = on([0, 0, 0, 0, busy]);
             let cut = &record[..length];
             let result = both::command(FIXED, &mut fresh_card(6), &mut state, cut, 256);
             assert_eq!(result, 8, "{cut:02X?}");

@@ -7,14 +7,15 @@ use std::sync::OnceLock;
 use second::author::{fresh_card, Author};
 use second::gen::{self, Rng};
 use second::layout::{
-    CARD, FUSES, LONGEST_SESSION, LONGEST_TITLE, MOST_RECORDS, SHORTEST_LOG, SHORTEST_SESSION,
-    TRAILER,
+    CARD, FLAG, FUSES, LONGEST_SESSION, LONGEST_TITLE, MOST_RECORDS, SHORTEST_LOG,
+    SHORTEST_SESSION, STAGED_VALUES, TRAILER,
 };
 use second::session::{self, trailer};
+use second::staging::READY;
 use second::writer::{parts, Parts};
 use second::{edges, examples, samples};
 
-use crate::{both, seeds, Met, FIXED, STAGES};
+use crate::{both, seeds, staging, Met, FIXED, STAGES};
 
 /// How much longer than the session a long space is.
 const MORE: usize = 300;
@@ -43,6 +44,8 @@ fn judged(input: Parts) -> u64 {
         4
     } else if !STAGES.contains(&input.card[FUSES]) {
         5
+    } else if !staging::sound(input.card) {
+        16
     } else if input.title.len() > LONGEST_TITLE {
         15
     } else {
@@ -95,7 +98,7 @@ fn expect(seed: &str, input: Parts, refusal: u64) {
     }
     match refusal {
         0 => read_and_run(seed, &session, input),
-        1 | 5..=9 => assert_eq!(both::run(seed, &session, 0).0, refusal, "{seed}"),
+        1 | 5..=9 | 16 => assert_eq!(both::run(seed, &session, 0).0, refusal, "{seed}"),
         4 if input.count <= 0xFFFF => assert_eq!(both::run(seed, &session, 0).0, 4, "{seed}"),
         _ => {}
     }
@@ -123,6 +126,8 @@ fn every_kind() -> Author {
         .ready()
         .read_fuses()
         .write_fuses()
+        .cut(3, 0x5A)
+        .staged_write(0x0F, &[3, 4, 5])
 }
 
 /// Adds records that take this many bytes together, as few as can be but for the last ones.
@@ -137,7 +142,10 @@ fn every_length_of_a_card() {
         .chain([0, 1, 2048, 4353, 4354, LONGEST_SESSION, LONGEST_SESSION + 1])
         .flat_map(|length| [(length, 7), (length, 0), (length, 5)])
     {
-        let card = vec![byte; length];
+        let mut card = vec![byte; length];
+        if let Some(flag) = card.get_mut(FLAG) {
+            *flag = 0xFF;
+        }
         let input = Parts { card: &card, ..author.parts() };
         let refusal = match byte {
             _ if length != CARD => 11,
@@ -272,7 +280,7 @@ fn every_change_of_a_record() {
             changed(&sound.records[at..], count);
         }
         let (before, after) = sound.records.split_at(at);
-        for byte in [0, 1, 3, 8, 13, 15, 255] {
+        for byte in [0, 1, 3, 8, 13, 15, 16, 17, 255] {
             for count in [sound.count, sound.count + 1] {
                 changed(&[before, &[byte], after].concat(), count);
             }
@@ -291,7 +299,7 @@ fn every_field_and_length_of_a_record() {
         let input = Parts { records: record, count: 1, ..author.parts() };
         write(FIXED, input, judged(input), noise(1, CARD + TRAILER + 24));
     };
-    for (kind, field) in (0..=16).flat_map(|kind| (0..=255).map(move |field| (kind, field))) {
+    for (kind, field) in (0..=18).flat_map(|kind| (0..=255).map(move |field| (kind, field))) {
         for length in 0..=13 {
             judge(&[kind, field, 9, 1, 2, 3, 4, 5, 6, 7, 8, 9, 10][..length]);
         }
@@ -299,10 +307,11 @@ fn every_field_and_length_of_a_record() {
     for kind in 0..=255 {
         judge(&[kind]);
     }
-    for (kind, count) in [4, 5, 6, 7].into_iter().flat_map(|kind| (0..=255).map(move |n| (kind, n)))
+    for (kind, count) in
+        [4, 5, 6, 7, 15].into_iter().flat_map(|kind| (0..=255).map(move |n| (kind, n)))
     {
         for address in [0, 1, 0x7F, 0x80, 0xFF] {
-            for data in [0, 1, 15, 16, 17] {
+            for data in [0, 1, 7, 8, 9, 15, 16, 17] {
                 judge(&[&[kind, address, count][..], &vec![kind; data]].concat());
             }
         }
@@ -312,10 +321,11 @@ fn every_field_and_length_of_a_record() {
 /// Sets of these refusals, each alone or with a bad record, in three variants.
 #[test]
 fn every_set_of_faults_in_an_input() {
-    const FAULTS: [u64; 7] = [11, 1, 4, 5, 15, 9, 10];
+    const FAULTS: [u64; 8] = [11, 1, 4, 5, 16, 15, 9, 10];
     #[rustfmt::skip]
     let bad: [(&[u8], u64); 7] = [
-        (&[], 0), (&[15], 6), (&[0x53, 0x45], 6), (&[3, 8], 7), (&[13, 0], 7), (&[3], 8), (&[4], 8),
+        (&[], 0), (&[17], 6), (&[0x53, 0x45], 6), (&[3, 8], 7), (&[15, 0, 9], 7), (&[3], 8),
+        (&[16, 0], 8),
     ];
     let filled = filling(Author::new(6), LONGEST_SESSION);
     let sound = Author::new(6).select(5).write(0, b"sound");
@@ -328,6 +338,10 @@ fn every_set_of_faults_in_an_input() {
                 continue;
             }
             let mut card = fresh_card(if has(5) { [5, 1, 255][variant] } else { 6 });
+            if has(16) {
+                let head = [[0xFD, 0, 0, 0], [READY, 8, 0, 0], [READY, 0, 0, 9]][variant];
+                card[FLAG..STAGED_VALUES].copy_from_slice(&head);
+            }
             if has(11) {
                 card.resize([CARD - 1, CARD + 1, 0][variant], 7);
             }
@@ -349,12 +363,12 @@ fn every_set_of_faults_in_an_input() {
                 count += 1;
             }
             if has(9) {
-                records.push([8, 0, 15][variant]);
+                records.push([8, 0, 17][variant]);
             } else if has(4) {
                 count = [count, 0x1_0000, u64::MAX][variant];
             }
             let input = Parts { card: &card, title: &title, records: &records, count };
-            let refusal = match [11, 1, 4, 5, 15].into_iter().find(|&number| has(number)) {
+            let refusal = match [11, 1, 4, 5, 16, 15].into_iter().find(|&number| has(number)) {
                 Some(first) => first,
                 None if number != 0 => number,
                 None if has(9) => 9,
@@ -439,7 +453,7 @@ fn source(rng: &mut Rng, records: usize) -> Source {
 /// Changes one thing, most often for the worse.
 fn damage(rng: &mut Rng, source: &mut Source) {
     let Source { card, title, records, count } = source;
-    match rng.below(13) {
+    match rng.below(14) {
         0 => card.resize(rng.pick(&[0, CARD - 1, CARD + 1, CARD + TRAILER, 2 * CARD]), 7),
         1 => {
             let length = rng.pick(&[LONGEST_SESSION - SHORTEST_SESSION + 1, LONGEST_SESSION]);
@@ -464,7 +478,8 @@ fn damage(rng: &mut Rng, source: &mut Source) {
             let at = rng.below(records.len());
             records[at] = rng.byte();
         }
-        10 => {
+        10 if card.len() >= CARD => gen::damage_staging(rng, card),
+        11 => {
             // The title's last byte goes to the records, or their first to the title.
             if rng.chance(50) {
                 records.splice(..0, title.pop());
@@ -518,7 +533,7 @@ fn parts_from_the_generator() {
         }
         one_source(&mut rng, &name, &damaged, &mut met);
     }
-    for refusal in [0, 1, 4, 5, 6, 7, 8, 9, 10, 11, 15] {
+    for refusal in [0, 1, 4, 5, 6, 7, 8, 9, 10, 11, 15, 16] {
         met.require(&format!("refusal {refusal}"), 50);
     }
     met.require("spaces of other noise", 20_000);
@@ -560,7 +575,7 @@ impl Written {
 
 #[test]
 fn every_division_of_a_short_string() {
-    const BYTES: [u8; 5] = [1, 3, 4, 13, 15];
+    const BYTES: [u8; 5] = [1, 3, 4, 16, 17];
     let (mut written, mut met) = (Written::default(), Met::default());
     let card = fresh_card(0);
     for length in 0..=4 {
@@ -607,7 +622,7 @@ fn two_inputs_never_give_one_session() {
         let end = trailer(CARD + sound.title.len(), sound.count as u16);
         let longer = [&sound.title[..sound.title.len().min(200)], &end].concat();
         written.add(&name, Parts { title: &longer, ..sound }, &mut met);
-        for place in [0, rng.below(FUSES), FUSES - 1, FUSES] {
+        for place in [0, rng.below(FUSES), FUSES - 1, FUSES, FLAG, FLAG + 1, FLAG + 2, CARD - 1] {
             let mut card = card.clone();
             card[place] = if place == FUSES { card[FUSES] ^ 4 } else { card[place] ^ 1 };
             written.add(&name, Parts { card: &card, ..sound }, &mut met);

@@ -1,4 +1,4 @@
-//! Logs of both layouts on both: every kind under every ending, every zone byte, logs and their
+//! Logs and their zones on both: every kind under every ending, every zone byte, logs and their
 //! changes, log space, and the zone that each entry of a session names.
 
 use second::author::{entry, log_of, Author};
@@ -13,7 +13,7 @@ use crate::{both, seeds, Met, FIXED, PLAIN, ZONED};
 /// The kinds whose entries name a zone.
 const NAMING: [u8; 4] = [4, 5, 132, 133];
 
-/// Whether an entry of this kind is to name a zone in a log with this ending.
+/// Whether an entry of this kind is to name a zone, where the ending is a log's.
 pub fn named(kind: u8, mark: [u8; 2]) -> bool {
     mark == ZONED && NAMING.contains(&kind)
 }
@@ -25,7 +25,7 @@ fn fits(kind: u8, length: usize) -> bool {
         4 => (1..=256).contains(&length),
         6 => (1..=128).contains(&length),
         8 | 14 => length == 1,
-        1..=13 | 130..=140 => length == 0,
+        1..=16 | 130..=143 => length == 0,
         _ => false,
     }
 }
@@ -44,7 +44,7 @@ fn answers(seed: &str, log: &[u8], count: usize) -> Vec<u64> {
 fn second_of_three(kind: u8, length: usize, zone: Option<u8>, mark: [u8; 2]) {
     let one = entry(kind, zone, &vec![0; length]);
     let entries = [entry(8, None, &[7]), one, entry(1, None, &[])].concat();
-    let good = (mark == PLAIN || mark == ZONED)
+    let good = mark == ZONED
         && fits(kind, length)
         && zone.is_some() == named(kind, mark)
         && zone.is_none_or(|zone| zone < 8);
@@ -86,8 +86,7 @@ fn every_zone_byte() {
             for (entries, count) in lists.into_iter().zip([1, 2, 2]) {
                 let result = both::answer(FIXED, &log_of(&entries, count, ZONED), 0) & 0xFF;
                 assert_eq!(result, if zone < 8 { 0 } else { 13 }, "kind {kind}, zone {zone}");
-                // Under the other ending the byte is a response's, or a kind.
-                answers(FIXED, &log_of(&entries, count, PLAIN), count.into());
+                assert_eq!(both::answer(FIXED, &log_of(&entries, count, PLAIN), 0), 13);
             }
         }
     }
@@ -95,7 +94,7 @@ fn every_zone_byte() {
 
 #[test]
 fn every_ending() {
-    // The first is good in one layout, the second in the other, the third in both.
+    // The first would be good without zones, the second is with them, the third in either case.
     let cases: [(&[u8], u16); 3] =
         [(&[4, 1, 0, 9], 1), (&[4, 1, 0, 5, 9], 1), (&[5, 0, 0, 4, 1, 0, 0], 2)];
     for (which, (entries, count)) in cases.into_iter().enumerate() {
@@ -104,9 +103,7 @@ fn every_ending() {
         for ending in 0..=0xFFFFu16 {
             log[at..].copy_from_slice(&ending.to_be_bytes());
             let expected = match (ending, which) {
-                (0x4C4F, 0) => found(3, 1),
                 (0x4C50, 1) => found(4, 1),
-                (0x4C4F, 2) => found(6, 1),
                 (0x4C50, 2) => found(7, 0),
                 _ => 13,
             };
@@ -126,9 +123,7 @@ fn the_zone_is_cut_off_at_the_card() {
                 let mut log = log_of(&whole[..length], 2, mark);
                 log[length..length + 4].fill(byte);
                 let result = both::answer(FIXED, &log, 1) & 0xFF;
-                // Without its last byte it is another whole log.
-                let cut = if mark == ZONED { 0 } else { 1 };
-                let good = length == whole.len() - cut;
+                let good = mark == ZONED && length == whole.len();
                 assert_eq!(result, if good { 0 } else { 13 }, "kind {kind}, {length}, {mark:02X?}");
             }
         }
@@ -139,7 +134,7 @@ fn the_zone_is_cut_off_at_the_card() {
 type Logged = (u8, u8, Vec<u8>);
 
 fn some_entries(rng: &mut Rng) -> Vec<Logged> {
-    let kinds: Vec<u8> = (1..=14).chain(130..=140).collect();
+    let kinds: Vec<u8> = (1..=16).chain(130..=143).collect();
     let count = rng.below(14);
     let mut entries = Vec::new();
     for _ in 0..count {
@@ -160,7 +155,7 @@ fn some_entries(rng: &mut Rng) -> Vec<Logged> {
     entries
 }
 
-/// Those entries in one layout, and what reading their log is to give.
+/// Those entries with or without their zones, and what reading their log is to give.
 fn laid_out(entries: &[Logged], mark: [u8; 2]) -> (Vec<u8>, Vec<u64>) {
     let (mut bytes, mut expected) = (Vec::new(), Vec::new());
     for (kind, zone, response) in entries {
@@ -168,6 +163,9 @@ fn laid_out(entries: &[Logged], mark: [u8; 2]) -> (Vec<u8>, Vec<u64>) {
         expected.push(found(bytes.len() - response.len(), response.len()));
     }
     expected.push(14);
+    if mark == PLAIN {
+        expected.fill(13);
+    }
     (bytes, expected)
 }
 
@@ -198,7 +196,7 @@ fn change(rng: &mut Rng, seed: &str, entries: &[u8], count: usize, met: &mut Met
 }
 
 #[test]
-fn logs_of_either_layout_and_their_changes() {
+fn logs_with_and_without_zones_and_their_changes() {
     let mut met = Met::default();
     for seed in seeds(400) {
         let mut rng = Rng::new(seed);
@@ -217,11 +215,11 @@ fn logs_of_either_layout_and_their_changes() {
             }
         }
     }
-    for layout in ["plain", "zoned"] {
-        for refusal in [0, 13, 14] {
-            met.require(&format!("changed, {layout}: refusal {refusal}"), 10_000);
-        }
+    for refusal in [0, 13, 14] {
+        met.require(&format!("changed, zoned: refusal {refusal}"), 10_000);
     }
+    met.require("changed, plain: refusal 13", 100_000);
+    assert!(!met.0.contains_key("changed, plain: refusal 0"));
 }
 
 /// The records of a sound session, as bytes.
@@ -287,17 +285,18 @@ fn note(met: &mut Met, kind: u8, zone: u8) {
     met.note_if("power cycle in another zone", kind == 1 && zone > 0);
     met.note_if("reset in another zone", kind == 2 && zone > 0);
     met.note_if("select met while busy", kind == 131);
+    met.note_if("staged write in another zone", kind == 15 && zone > 0);
 }
 
 /// Follows a session call by call and expects what each record adds to its log; reads every answer
-/// of that log, and of the one without zones.
-fn follow(seed: &str, session: &[u8], met: &mut Met) {
+/// of that log, and none of one without zones.
+pub fn follow(seed: &str, session: &[u8], met: &mut Met) {
     let (result, space) = both::run(seed, session, 70_000);
     assert_eq!(result & 0xFF, 0, "{seed}");
     let log = &space[..(result >> 8) as usize];
     let plain = gen::without_zones(log);
     let (mut card, mut state) = (session[..CARD].to_vec(), [0; STATE]);
-    let (mut zone, mut at, mut zones) = (0, 0, 0);
+    let (mut zone, mut at) = (0, 0);
     let records = records(session);
     for (number, record) in (0..).zip(&records) {
         assert_eq!(state[0], zone, "{seed}, record {number}");
@@ -306,13 +305,13 @@ fn follow(seed: &str, session: &[u8], met: &mut Met) {
         let naming = named(kind, ZONED);
         let expected = entry(kind, naming.then_some(zone), &response[..length]);
         at += expected.len();
-        zones += usize::from(naming);
         assert_eq!(log[at - expected.len()..at], expected, "{seed}, record {number}");
         assert_eq!(both::answer(seed, log, number), found(at - length, length));
-        assert_eq!(both::answer(seed, &plain, number), found(at - zones - length, length));
+        assert_eq!(both::answer(seed, &plain, number), 13);
         note(met, kind, zone);
         zone = match kind {
             1 => 0,
+            15 if state[5] == 1 => 0,
             3 => record[1],
             _ => zone,
         };
@@ -320,7 +319,7 @@ fn follow(seed: &str, session: &[u8], met: &mut Met) {
     let count = records.len() as u16;
     let end = [&(at as u32).to_le_bytes()[..], &count.to_le_bytes(), &ZONED].concat();
     assert!(log[at..] == [card, end].concat(), "{seed}: the log's end");
-    assert_eq!([log, &plain].map(|log| both::answer(seed, log, count.into())), [14; 2]);
+    assert_eq!([log, &plain].map(|log| both::answer(seed, log, count.into())), [14, 13]);
 }
 
 #[test]
@@ -335,7 +334,12 @@ fn every_entry_names_the_zone_that_was_selected() {
     for (kind, zone) in NAMING.into_iter().flat_map(|kind| (0..8).map(move |zone| (kind, zone))) {
         met.require(&format!("kind {kind} in zone {zone}"), 100);
     }
-    for what in ["power cycle in another zone", "reset in another zone", "select met while busy"] {
+    #[rustfmt::skip]
+    let met_often = [
+        "power cycle in another zone", "reset in another zone", "select met while busy",
+        "staged write in another zone",
+    ];
+    for what in met_often {
         met.require(what, 500);
     }
 }

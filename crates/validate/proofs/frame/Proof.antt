@@ -1,6 +1,6 @@
 -- Each return by the tests that led to it.
 use borrow.Author.Needs.{needs}
-use Rattle.validate.proofs.SessionCheckLaws.{too-short, too-long, no-53, no-45, start-low, start-high, many, bad-fuses, well}
+use Rattle.validate.proofs.SessionCheckLaws.{too-short, too-long, no-53, no-45, start-low, start-high, many, bad-fuses, bad-staging, well}
 use Rattle.validate.proofs.frame.Statement.{statement}
 use Rattle.validate.proofs.frame.Tie as tie
 
@@ -61,8 +61,14 @@ is-fuse-byte-requires c κs = search needs
 returns-8 : tie.Need-returns-8
 returns-8 c = search bad-fuses
 
+staging-fits-requires : tie.Need-staging-fits-requires
+staging-fits-requires c κs = search needs
+
 returns-9 : tie.Need-returns-9
-returns-9 c = search well
+returns-9 c = search bad-staging
+
+returns-10 : tie.Need-returns-10
+returns-10 c = search well
 
 pub frame-spec : {M : Type 1} → statement M
 frame-spec =
@@ -87,4 +93,6 @@ frame-spec =
     shared-slice-read-is-fuse-byte
     is-fuse-byte-requires
     returns-8
-    returns-9)
+    staging-fits-requires
+    returns-9
+    returns-10)

@@ -1,9 +1,9 @@
 -- Each return by what was found on the way.
 use mathlib.Core.Path.{sym, ap, _∙_}
-use borrow.Author.Needs.{needs}
 use Rattle.record.specs.RefusalNumber.{outcomeNumber}
 use Rattle.record.specs.DecodedRecord.{decodedOf}
-use Rattle.command.proofs.AdmitLaws.{check-refused, record-refused, left-over, known-head, no-room, is-admitted}
+use Rattle.command.proofs.AdmitLaws.{check-refused, record-refused, passed-long, left-over, known-head, no-room, is-admitted}
+use borrow.Author.Needs.{needs}
 use Rattle.command.proofs.admit.admit.Statement.{statement}
 use Rattle.command.proofs.admit.admit.Tie as tie
 
@@ -42,27 +42,38 @@ returns-2 c =
 head-of-requires : tie.Need-head-of-requires
 head-of-requires c κs = search needs
 
-needed-requires : tie.Need-needed-requires
-needed-requires c κs =
+is-halted-requires : tie.Need-is-halted-requires
+is-halted-requires c κs =
     let start = c .before .before .before .before .before .before .before .before .before .before .before in
     let check = c .before .before .before .before .before .before .before .before .check in
     let enum-told = c .before .before .before .before .before .before .enum-told in
     let decode = c .before .before .before .before .before .decode in
     let kind = c .before .before .before .kind in
+    passed-long _ _ _ 0 (sym (ap outcomeNumber (enum-told .given .1)) ∙ check .ensures) (kind .given .0 .0) _
+    (sym (ap (decodedOf (start .args .«record» .now)) (kind .given .1)) ∙ decode .ensures)
+
+needed-requires : tie.Need-needed-requires
+needed-requires c κs =
+    let start = c .before .before .before .before .before .before .before .before .before .before .before .before in
+    let check = c .before .before .before .before .before .before .before .before .before .check in
+    let enum-told = c .before .before .before .before .before .before .before .enum-told in
+    let decode = c .before .before .before .before .before .before .decode in
+    let kind = c .before .before .before .before .kind in
     known-head _ _ _ 0 (sym (ap outcomeNumber (enum-told .given .1)) ∙ check .ensures) (kind .given .0 .0) _
-    (sym (ap (decodedOf (start .args .«record» .now)) (kind .given .1)) ∙ decode .ensures) _ (c .head-of .ensures)
+    (sym (ap (decodedOf (start .args .«record» .now)) (kind .given .1)) ∙ decode .ensures) _ (c .before .head-of .ensures)
 
 returns-3 : tie.Need-returns-3
 returns-3 c =
-    let start = c .before .before .before .before .before .before .before .before .before .before .before .before .before in
-    let check = c .before .before .before .before .before .before .before .before .before .before .check in
-    let enum-told = c .before .before .before .before .before .before .before .before .enum-told in
-    let decode = c .before .before .before .before .before .before .before .decode in
-    let kind = c .before .before .before .before .before .kind in
-    let if1 = c .before .before .before .if1 in
+    let start = c .before .before .before .before .before .before .before .before .before .before .before .before .before .before in
+    let check = c .before .before .before .before .before .before .before .before .before .before .before .check in
+    let enum-told = c .before .before .before .before .before .before .before .before .before .enum-told in
+    let decode = c .before .before .before .before .before .before .before .before .decode in
+    let kind = c .before .before .before .before .before .before .kind in
+    let if1 = c .before .before .before .before .if1 in
+    let head-of = c .before .before .before .head-of in
     no-room _ _ _ _ (sym (ap outcomeNumber (enum-told .given .1)) ∙ check .ensures) (kind .given .0 .0) _
-    (sym (ap (decodedOf (start .args .«record» .now)) (kind .given .1)) ∙ decode .ensures)
-    _ (c .before .before .head-of .ensures) _ (if1 .left) (c .before .needed .ensures) (c .if2 .taken)
+    (sym (ap (decodedOf (start .args .«record» .now)) (kind .given .1)) ∙ decode .ensures) _ (head-of .ensures) _ (if1 .left) _
+    (c .before .before .is-halted .ensures) (c .before .needed .ensures) (c .if2 .taken)
 
 returns-4 : tie.Need-returns-4
 returns-4 c =
@@ -75,15 +86,16 @@ returns-4 c =
 
 returns-5 : tie.Need-returns-5
 returns-5 c =
-    let start = c .before .before .before .before .before .before .before .before .before .before .before .before .before in
-    let check = c .before .before .before .before .before .before .before .before .before .before .check in
-    let enum-told = c .before .before .before .before .before .before .before .before .enum-told in
-    let decode = c .before .before .before .before .before .before .before .decode in
-    let kind = c .before .before .before .before .before .kind in
-    let if1 = c .before .before .before .if1 in
+    let start = c .before .before .before .before .before .before .before .before .before .before .before .before .before .before in
+    let check = c .before .before .before .before .before .before .before .before .before .before .before .check in
+    let enum-told = c .before .before .before .before .before .before .before .before .before .enum-told in
+    let decode = c .before .before .before .before .before .before .before .before .decode in
+    let kind = c .before .before .before .before .before .before .kind in
+    let if1 = c .before .before .before .before .if1 in
+    let head-of = c .before .before .before .head-of in
     is-admitted _ _ _ _ (sym (ap outcomeNumber (enum-told .given .1)) ∙ check .ensures) (kind .given .0 .0) _
-    (sym (ap (decodedOf (start .args .«record» .now)) (kind .given .1)) ∙ decode .ensures)
-    _ (c .before .before .head-of .ensures) _ (if1 .left) (c .before .needed .ensures) (c .if2 .left)
+    (sym (ap (decodedOf (start .args .«record» .now)) (kind .given .1)) ∙ decode .ensures) _ (head-of .ensures) _ (if1 .left) _
+    (c .before .before .is-halted .ensures) (c .before .needed .ensures) (c .if2 .left)
 
 pub admit-spec : {M : Type 1} → statement M
 admit-spec =
@@ -98,6 +110,7 @@ admit-spec =
     enum-known-kind
     returns-2
     head-of-requires
+    is-halted-requires
     needed-requires
     returns-3
     returns-4

@@ -19,4 +19,5 @@ returns-2 : tie.Need-returns-2
 returns-2 c = rw (← (c .before .before .is-ignored .ensures), c .before .if1 .left) (c .answer-length .ensures)
 
 pub needed-spec : {M : Type 1} → statement M
-needed-spec = tie.close (tie.spec is-ignored-requires returns answer-length-requires cast-result returns-2)
+needed-spec =
+    tie.close (tie.spec is-ignored-requires returns answer-length-requires cast-result returns-2)

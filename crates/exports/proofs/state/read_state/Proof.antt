@@ -1,7 +1,7 @@
 -- Refused, or read byte by byte.
 use native.Mathlib.Omega.{arith}
+use Rattle.exports.proofs.StateByteLaws.{unread, all-nine, is-read}
 use borrow.Author.Needs.{needs}
-use Rattle.exports.proofs.StateByteLaws.{unread, five, is-read}
 use Rattle.exports.proofs.state.read_state.Statement.{statement}
 use Rattle.exports.proofs.state.read_state.Tie as tie
 
@@ -12,12 +12,12 @@ returns : tie.Need-returns
 returns c = unread _ _ (c .before .is-state .ensures) (c .if1 .taken)
 
 shared-slice-read-active-read : tie.Need-shared-slice-read-active-read
-shared-slice-read-active-read c = let l = five _ _ (c .before .before .is-state .ensures) (c .before .if1 .left) in omega arith
+shared-slice-read-active-read c = let l = all-nine _ _ (c .before .before .is-state .ensures) (c .before .if1 .left) in omega arith
 
 shared-slice-read-active-read-2 : tie.Need-shared-slice-read-active-read-2
 shared-slice-read-active-read-2 c =
     let is-state = c .before .before .before .is-state in
-    let l = five _ _ (is-state .ensures) (c .before .before .if1 .left) in omega arith
+    let l = all-nine _ _ (is-state .ensures) (c .before .before .if1 .left) in omega arith
 
 active-read-requires : tie.Need-active-read-requires
 active-read-requires c κs = search needs
@@ -26,29 +26,58 @@ shared-slice-read-authentication-read : tie.Need-shared-slice-read-authenticatio
 shared-slice-read-authentication-read c =
     let is-state = c .before .before .before .before .before .is-state in
     let if1 = c .before .before .before .before .if1 in
-    let l = five _ _ (is-state .ensures) (if1 .left) in omega arith
+    let l = all-nine _ _ (is-state .ensures) (if1 .left) in omega arith
 
 authentication-read-requires : tie.Need-authentication-read-requires
 authentication-read-requires c κs = search needs
 
-shared-slice-read-t13 : tie.Need-shared-slice-read-t13
-shared-slice-read-t13 c =
+shared-slice-read-tear-read : tie.Need-shared-slice-read-tear-read
+shared-slice-read-tear-read c =
     let is-state = c .before .before .before .before .before .before .before .is-state in
     let if1 = c .before .before .before .before .before .before .if1 in
-    let l = five _ _ (is-state .ensures) (if1 .left) in omega arith
+    let l = all-nine _ _ (is-state .ensures) (if1 .left) in omega arith
 
-shared-slice-read-t11 : tie.Need-shared-slice-read-t11
-shared-slice-read-t11 c =
+shared-slice-read-tear-read-2 : tie.Need-shared-slice-read-tear-read-2
+shared-slice-read-tear-read-2 c =
     let is-state = c .before .before .before .before .before .before .before .before .is-state in
     let if1 = c .before .before .before .before .before .before .before .if1 in
-    let l = five _ _ (is-state .ensures) (if1 .left) in omega arith
+    let l = all-nine _ _ (is-state .ensures) (if1 .left) in omega arith
+
+shared-slice-read-tear-read-3 : tie.Need-shared-slice-read-tear-read-3
+shared-slice-read-tear-read-3 c =
+    let is-state = c .before .before .before .before .before .before .before .before .before .is-state in
+    let if1 = c .before .before .before .before .before .before .before .before .if1 in
+    let l = all-nine _ _ (is-state .ensures) (if1 .left) in omega arith
+
+tear-read-requires : tie.Need-tear-read-requires
+tear-read-requires c κs = search needs
+
+shared-slice-read-t15 : tie.Need-shared-slice-read-t15
+shared-slice-read-t15 c =
+    let is-state = c .before .before .before .before .before .before .before .before .before .before .before .is-state in
+    let if1 = c .before .before .before .before .before .before .before .before .before .before .if1 in
+    let l = all-nine _ _ (is-state .ensures) (if1 .left) in omega arith
+
+shared-slice-read-t20 : tie.Need-shared-slice-read-t20
+shared-slice-read-t20 c =
+    let is-state = c .before .before .before .before .before .before .before .before .before .before .before .before .is-state in
+    let if1 = c .before .before .before .before .before .before .before .before .before .before .before .if1 in
+    let l = all-nine _ _ (is-state .ensures) (if1 .left) in omega arith
+
+shared-slice-read-t13 : tie.Need-shared-slice-read-t13
+shared-slice-read-t13 c =
+    let is-state = c .before .before .before .before .before .before .before .before .before .before .before .before .before .is-state in
+    let if1 = c .before .before .before .before .before .before .before .before .before .before .before .before .if1 in
+    let l = all-nine _ _ (is-state .ensures) (if1 .left) in omega arith
 
 returns-2 : tie.Need-returns-2
 returns-2 c =
-    let is-state = c .before .before .before .before .before .before .before .before .is-state in
-    let if1 = c .before .before .before .before .before .before .before .if1 in
-    let active-read = c .before .before .before .before .active-read in
-    is-read _ _ (is-state .ensures) (if1 .left) _ _ (active-read .ensures) (c .before .before .authentication-read .ensures)
+    let is-state = c .before .before .before .before .before .before .before .before .before .before .before .before .before .is-state in
+    let if1 = c .before .before .before .before .before .before .before .before .before .before .before .before .if1 in
+    let active-read = c .before .before .before .before .before .before .before .before .before .active-read in
+    let authentication-read = c .before .before .before .before .before .before .before .authentication-read in
+    let tear-read = c .before .before .before .tear-read in
+    is-read _ _ (is-state .ensures) (if1 .left) _ _ _ (active-read .ensures) (authentication-read .ensures) (tear-read .ensures)
 
 pub read-state-spec : {M : Type 1} → statement M
 read-state-spec =
@@ -61,6 +90,11 @@ read-state-spec =
     active-read-requires
     shared-slice-read-authentication-read
     authentication-read-requires
+    shared-slice-read-tear-read
+    shared-slice-read-tear-read-2
+    shared-slice-read-tear-read-3
+    tear-read-requires
+    shared-slice-read-t15
+    shared-slice-read-t20
     shared-slice-read-t13
-    shared-slice-read-t11
     returns-2)

@@ -1,6 +1,6 @@
 -- Each return by the tests that led to it.
 use borrow.Author.Needs.{needs}
-use Rattle.log.proofs.LogCheckLaws.{misfit, bad-zone, zoned-end, plain-end}
+use Rattle.log.proofs.LogCheckLaws.{misfit, bad-zone, named-end, unnamed-end}
 use Rattle.log.proofs.check.entry_end.Statement.{statement}
 use Rattle.log.proofs.check.entry_end.Tie as tie
 
@@ -17,7 +17,7 @@ entry-fits-requires : tie.Need-entry-fits-requires
 entry-fits-requires c κs = search needs
 
 returns : tie.Need-returns
-returns c = misfit _ _ _ _ _ _ (c .before .before .get2 .ensures .0) (c .before .entry-fits .ensures) (c .if1 .taken)
+returns c = misfit _ _ _ _ _ (c .before .before .get2 .ensures .0) (c .before .entry-fits .ensures) (c .if1 .taken)
 
 names-zone-requires : tie.Need-names-zone-requires
 names-zone-requires c κs = search needs
@@ -34,7 +34,7 @@ returns-2 c =
     let entry-fits = c .before .before .before .before .before .entry-fits in
     let if1 = c .before .before .before .before .if1 in
     let names-zone = c .before .before .before .names-zone in
-    bad-zone _ _ _ _ _ _ (get2 .ensures .0) (entry-fits .ensures) _ (if1 .left) (names-zone .ensures) (c .before .before .if2 .taken) (search needs)
+    bad-zone _ _ _ _ _ (get2 .ensures .0) (entry-fits .ensures) _ (if1 .left) (names-zone .ensures) (c .before .before .if2 .taken) (search needs)
 
 add-ended : tie.Need-add-ended
 add-ended c = search needs
@@ -52,7 +52,7 @@ returns-3 c =
     let if1 = c .before .before .before .before .before .if1 in
     let names-zone = c .before .before .before .before .names-zone in
     let if2 = c .before .before .before .if2 in
-    zoned-end _ _ _ _ _ _ (get2 .ensures .0) (entry-fits .ensures) _ (if1 .left) (names-zone .ensures) (if2 .taken) _ (search needs) (c .ended .ensures)
+    named-end _ _ _ _ _ (get2 .ensures .0) (entry-fits .ensures) _ (if1 .left) (names-zone .ensures) (if2 .taken) _ (search needs) (c .ended .ensures)
 
 add-ended-3 : tie.Need-add-ended-3
 add-ended-3 c = search needs
@@ -68,7 +68,7 @@ returns-4 c =
     let get2 = c .before .before .before .before .before .get2 in
     let entry-fits = c .before .before .before .before .entry-fits in
     let if1 = c .before .before .before .if1 in
-    plain-end _ _ _ _ _ _ (get2 .ensures .0) (entry-fits .ensures)
+    unnamed-end _ _ _ _ _ (get2 .ensures .0) (entry-fits .ensures)
     _ (if1 .left) (c .before .before .names-zone .ensures) _ (c .before .if2 .left) (c .ended2 .ensures)
 
 pub entry-end-spec : {M : Type 1} → statement M

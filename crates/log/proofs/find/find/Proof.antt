@@ -1,5 +1,4 @@
 -- Each return by the tests that led to it.
-use mathlib.Core.Path.{refl}
 use native.Mathlib.Omega.{arith}
 use borrow.Author.Needs.{needs}
 use Rattle.log.proofs.FindLaws.{no-trailer, trailer-is, bad-entries, no-answer, header-within, answer-at}
@@ -32,69 +31,56 @@ get4-requires c κs =
     let start = c .before .before .before .before in
     let t = trailer-is (start .args .log .now) (start .args .number) _ (c .before .before .trailer-ok .ensures) (c .before .if1 .left) in omega arith
 
-sub-zoned : tie.Need-sub-zoned
-sub-zoned c =
-    let start = c .before .before .before .before .before in
-    let trailer-ok = c .before .before .before .trailer-ok in
-    let t = trailer-is (start .args .log .now) (start .args .number) _ (trailer-ok .ensures) (c .before .before .if1 .left) in omega arith
-
-shared-slice-read-zoned : tie.Need-shared-slice-read-zoned
-shared-slice-read-zoned c =
-    let start = c .before .before .before .before .before .before in
-    let trailer-ok = c .before .before .before .before .trailer-ok in
-    let if1 = c .before .before .before .if1 in
-    let t = trailer-is (start .args .log .now) (start .args .number) _ (trailer-ok .ensures) (if1 .left) in omega arith
-
 scan-requires : tie.Need-scan-requires
 scan-requires c κs =
-    let start = c .before .before .before .before .before .before in
-    let trailer-ok = c .before .before .before .before .trailer-ok in
-    let if1 = c .before .before .before .if1 in
+    let start = c .before .before .before .before .before in
+    let trailer-ok = c .before .before .before .trailer-ok in
+    let if1 = c .before .before .if1 in
     let t = trailer-is (start .args .log .now) (start .args .number) _ (trailer-ok .ensures) (if1 .left) in
-    let g = c .before .get4 .ensures .0 in
+    let g = c .get4 .ensures .0 in
     omega arith
 
 returns-2 : tie.Need-returns-2
 returns-2 c =
+    let start = c .before .before .before .before .before .before .before .before in
+    let trailer-ok = c .before .before .before .before .before .before .trailer-ok in
+    let if1 = c .before .before .before .before .before .if1 in
+    let get2 = c .before .before .before .before .get2 in
+    let get4 = c .before .before .before .get4 in
+    bad-entries (start .args .log .now) (start .args .number) _ (trailer-ok .ensures) (if1 .left) _ _ _ _
+    (get2 .ensures .0) (get4 .ensures .0) (c .before .before .scan .ensures) (c .if2 .taken)
+
+returns-3 : tie.Need-returns-3
+returns-3 c =
     let start = c .before .before .before .before .before .before .before .before .before in
     let trailer-ok = c .before .before .before .before .before .before .before .trailer-ok in
     let if1 = c .before .before .before .before .before .before .if1 in
     let get2 = c .before .before .before .before .before .get2 in
     let get4 = c .before .before .before .before .get4 in
-    bad-entries (start .args .log .now) (start .args .number) _ (trailer-ok .ensures) (if1 .left) _ _ _ _ _ refl
-    (get2 .ensures .0) (get4 .ensures .0) (c .before .before .scan .ensures) (c .if2 .taken)
-
-returns-3 : tie.Need-returns-3
-returns-3 c =
-    let start = c .before .before .before .before .before .before .before .before .before .before in
-    let trailer-ok = c .before .before .before .before .before .before .before .before .trailer-ok in
-    let if1 = c .before .before .before .before .before .before .before .if1 in
-    let get2 = c .before .before .before .before .before .before .get2 in
-    let get4 = c .before .before .before .before .before .get4 in
     let scan = c .before .before .before .scan in
-    no-answer (start .args .log .now) (start .args .number) _ (trailer-ok .ensures) (if1 .left) _ _ _ _ _ refl
+    no-answer (start .args .log .now) (start .args .number) _ (trailer-ok .ensures) (if1 .left) _ _ _ _
     (get2 .ensures .0) (get4 .ensures .0) (scan .ensures) (c .before .if2 .left) (c .if3 .taken)
 
 response-at-requires : tie.Need-response-at-requires
 response-at-requires c κs =
+    let start = c .before .before .before .before .before .before .before .before .before in
+    let trailer-ok = c .before .before .before .before .before .before .before .trailer-ok in
+    let if1 = c .before .before .before .before .before .before .if1 in
+    let get2 = c .before .before .before .before .before .get2 in
+    let get4 = c .before .before .before .before .get4 in
+    let scan = c .before .before .before .scan in
+    header-within (start .args .log .now) (start .args .number) _ (trailer-ok .ensures) (if1 .left) _ _ _ _
+    (get2 .ensures .0) (get4 .ensures .0) (scan .ensures) (c .before .if2 .left) (c .if3 .left)
+
+returns-4 : tie.Need-returns-4
+returns-4 c =
     let start = c .before .before .before .before .before .before .before .before .before .before in
     let trailer-ok = c .before .before .before .before .before .before .before .before .trailer-ok in
     let if1 = c .before .before .before .before .before .before .before .if1 in
     let get2 = c .before .before .before .before .before .before .get2 in
     let get4 = c .before .before .before .before .before .get4 in
-    let scan = c .before .before .before .scan in
-    header-within (start .args .log .now) (start .args .number) _ (trailer-ok .ensures) (if1 .left) _ _ _ _ _ refl
-    (get2 .ensures .0) (get4 .ensures .0) (scan .ensures) (c .before .if2 .left) (c .if3 .left)
-
-returns-4 : tie.Need-returns-4
-returns-4 c =
-    let start = c .before .before .before .before .before .before .before .before .before .before .before in
-    let trailer-ok = c .before .before .before .before .before .before .before .before .before .trailer-ok in
-    let if1 = c .before .before .before .before .before .before .before .before .if1 in
-    let get2 = c .before .before .before .before .before .before .before .get2 in
-    let get4 = c .before .before .before .before .before .before .get4 in
     let scan = c .before .before .before .before .scan in
-    answer-at (start .args .log .now) (start .args .number) _ (trailer-ok .ensures) (if1 .left) _ _ _ _ _ refl
+    answer-at (start .args .log .now) (start .args .number) _ (trailer-ok .ensures) (if1 .left) _ _ _ _
     (get2 .ensures .0) (get4 .ensures .0) (scan .ensures) (c .before .before .if2 .left) _ (c .before .if3 .left) (c .response-at .ensures)
 
 pub find-spec : {M : Type 1} → statement M
@@ -107,8 +93,6 @@ find-spec =
     get2-requires
     sub-get4
     get4-requires
-    sub-zoned
-    shared-slice-read-zoned
     scan-requires
     returns-2
     returns-3

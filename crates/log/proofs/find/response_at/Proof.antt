@@ -12,8 +12,8 @@ shared-slice-read-header-length c = search needs
 header-length-requires : tie.Need-header-length-requires
 header-length-requires c κs = search needs
 
-add-t7 : tie.Need-add-t7
-add-t7 c = let h = header-short _ _ _ (c .header-length .ensures) in omega arith
+add-t6 : tie.Need-add-t6
+add-t6 c = let h = header-short _ _ _ (c .header-length .ensures) in omega arith
 
 add-get2 : tie.Need-add-get2
 add-get2 c = search needs
@@ -24,7 +24,7 @@ get2-requires c κs = search needs
 returns : tie.Need-returns
 returns c =
     let start = c .before .before .before .before in
-    response-found _ (start .args .log .now) _ _ _ (c .before .header-length .ensures) (c .get2 .ensures .0)
+    response-found (start .args .log .now) _ _ _ (c .before .header-length .ensures) (c .get2 .ensures .0)
 
 pub response-at-spec : {M : Type 1} → statement M
 response-at-spec =
@@ -32,7 +32,7 @@ response-at-spec =
     (tie.spec
     shared-slice-read-header-length
     header-length-requires
-    add-t7
+    add-t6
     add-get2
     get2-requires
     returns)

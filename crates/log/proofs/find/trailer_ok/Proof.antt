@@ -1,6 +1,6 @@
 -- Each return by the tests that led to it.
 use borrow.Author.Needs.{needs}
-use Rattle.log.proofs.LogCheckLaws.{too-short, no-4C, no-ending, many, no-meeting, fuses-decide}
+use Rattle.log.proofs.LogCheckLaws.{too-short, no-4C, no-50, many, no-meeting, no-stage, staging-decides}
 use Rattle.log.proofs.find.trailer_ok.Statement.{statement}
 use Rattle.log.proofs.find.trailer_ok.Tie as tie
 
@@ -16,17 +16,14 @@ shared-slice-read-if2 c = search needs
 returns-2 : tie.Need-returns-2
 returns-2 c = search no-4C
 
-sub-last : tie.Need-sub-last
-sub-last c = search needs
+sub-if3 : tie.Need-sub-if3
+sub-if3 c = search needs
 
-shared-slice-read-last : tie.Need-shared-slice-read-last
-shared-slice-read-last c = search needs
-
-either-requires : tie.Need-either-requires
-either-requires c κs = search needs
+shared-slice-read-if3 : tie.Need-shared-slice-read-if3
+shared-slice-read-if3 c = search needs
 
 returns-3 : tie.Need-returns-3
-returns-3 c = search no-ending
+returns-3 c = search no-50
 
 sub-get2 : tie.Need-sub-get2
 sub-get2 c = search needs
@@ -59,7 +56,13 @@ is-fuse-byte-requires : tie.Need-is-fuse-byte-requires
 is-fuse-byte-requires c κs = search needs
 
 returns-6 : tie.Need-returns-6
-returns-6 c = search fuses-decide
+returns-6 c = search no-stage
+
+staging-fits-requires : tie.Need-staging-fits-requires
+staging-fits-requires c κs = search needs
+
+returns-7 : tie.Need-returns-7
+returns-7 c = search staging-decides
 
 pub trailer-ok-spec : {M : Type 1} → statement M
 trailer-ok-spec =
@@ -69,9 +72,8 @@ trailer-ok-spec =
     sub-if2
     shared-slice-read-if2
     returns-2
-    sub-last
-    shared-slice-read-last
-    either-requires
+    sub-if3
+    shared-slice-read-if3
     returns-3
     sub-get2
     get2-requires
@@ -83,4 +85,6 @@ trailer-ok-spec =
     add-is-fuse-byte
     shared-slice-read-is-fuse-byte
     is-fuse-byte-requires
-    returns-6)
+    returns-6
+    staging-fits-requires
+    returns-7)

@@ -62,7 +62,15 @@ returns-13 c = rw (c .match .keys13)
 
 returns-14 : tie.Need-returns-14
 unfolding recordOf
-returns-14 c = search tests
+returns-14 c = rw (c .match .keys14)
+
+returns-15 : tie.Need-returns-15
+unfolding recordOf
+returns-15 c = rw (c .match .keys15)
+
+returns-16 : tie.Need-returns-16
+unfolding recordOf
+returns-16 c = search tests
 
 pub made-spec : {M : Type 1} → statement M
 made-spec =
@@ -82,4 +90,6 @@ made-spec =
     returns-11
     returns-12
     returns-13
-    returns-14)
+    returns-14
+    returns-15
+    returns-16)

@@ -3,7 +3,7 @@ use Prim.Native.Nat.{_<_}
 use native.Mathlib.Omega.{arith}
 use borrow.Author.Needs.{needs}
 use Rattle.laws.specs.RecordLaws.{fixed-small, data-small}
-use Rattle.record.proofs.DecoderLaws.{no-kind, kind-zero, kind-large, fields-absent, out-of-range, data-absent, all-there}
+use Rattle.record.proofs.DecoderLaws.{kind-within, no-kind, unknown, fields-absent, out-of-range, data-absent, all-there}
 use Rattle.record.proofs.decoder.measure.Statement.{statement}
 use Rattle.record.proofs.decoder.measure.Tie as tie
 
@@ -13,20 +13,20 @@ returns c = search no-kind
 byte-at-requires : tie.Need-byte-at-requires
 byte-at-requires c κs = search needs
 
-returns-2 : tie.Need-returns-2
-returns-2 c = search kind-zero
+is-known-requires : tie.Need-is-known-requires
+is-known-requires c κs = search needs
 
-returns-3 : tie.Need-returns-3
-returns-3 c = search kind-large
+returns-2 : tie.Need-returns-2
+returns-2 c = search unknown
 
 fixed-fields-requires : tie.Need-fixed-fields-requires
-fixed-fields-requires c κs = search needs
+fixed-fields-requires c κs = kind-within _ _ (c .before .is-known .ensures) (c .if2 .left)
 
 add-start : tie.Need-add-start
 add-start c = rw (c .fixed-fields .ensures) (omega (arith, fixed-small (c .before .before .before .byte-at .result)))
 
-returns-4 : tie.Need-returns-4
-returns-4 c = search fields-absent
+returns-3 : tie.Need-returns-3
+returns-3 c = search fields-absent
 
 byte-at-requires-2 : tie.Need-byte-at-requires-2
 byte-at-requires-2 c κs = search needs
@@ -35,13 +35,19 @@ byte-at-requires-3 : tie.Need-byte-at-requires-3
 byte-at-requires-3 c κs = search needs
 
 in-range-requires : tie.Need-in-range-requires
-in-range-requires c κs = search needs
+in-range-requires c κs =
+    let is-known = c .before .before .before .before .before .is-known in
+    let if2 = c .before .before .before .before .if2 in
+    kind-within _ _ (is-known .ensures) (if2 .left)
 
-returns-5 : tie.Need-returns-5
-returns-5 c = search out-of-range
+returns-4 : tie.Need-returns-4
+returns-4 c = search out-of-range
 
 data-length-requires : tie.Need-data-length-requires
-data-length-requires c κs = search needs
+data-length-requires c κs =
+    let is-known = c .before .before .before .before .before .before .before .is-known in
+    let if2 = c .before .before .before .before .before .before .if2 in
+    kind-within _ _ (is-known .ensures) (if2 .left)
 
 add-end : tie.Need-add-end
 add-end c =
@@ -52,14 +58,17 @@ add-end c =
     rw (fixed-fields .ensures, c .data-length .ensures)
     (omega (arith, fixed-small (byte-at .result), data-small (byte-at .result) (byte-at3 .result) n))
 
-returns-6 : tie.Need-returns-6
-returns-6 c = search data-absent
+returns-5 : tie.Need-returns-5
+returns-5 c = search data-absent
 
 answer-length-requires : tie.Need-answer-length-requires
-answer-length-requires c κs = search needs
+answer-length-requires c κs =
+    let is-known = c .before .before .before .before .before .before .before .before .before .is-known in
+    let if2 = c .before .before .before .before .before .before .before .before .if2 in
+    kind-within _ _ (is-known .ensures) (if2 .left)
 
-returns-7 : tie.Need-returns-7
-returns-7 c = search all-there
+returns-6 : tie.Need-returns-6
+returns-6 c = search all-there
 
 pub measure-spec : {M : Type 1} → statement M
 measure-spec =
@@ -67,17 +76,17 @@ measure-spec =
     (tie.spec
     returns
     byte-at-requires
+    is-known-requires
     returns-2
-    returns-3
     fixed-fields-requires
     add-start
-    returns-4
+    returns-3
     byte-at-requires-2
     byte-at-requires-3
     in-range-requires
-    returns-5
+    returns-4
     data-length-requires
     add-end
-    returns-6
+    returns-5
     answer-length-requires
-    returns-7)
+    returns-6)

@@ -4,9 +4,6 @@ use Rattle.record.proofs.DigitLaws.{data-digit}
 use Rattle.record.proofs.kind.data_length.Statement.{statement}
 use Rattle.record.proofs.kind.data_length.Tie as tie
 
-either-requires : tie.Need-either-requires
-either-requires c κs = search needs
-
 digit-requires : tie.Need-digit-requires
 digit-requires c κs = search needs
 
@@ -15,8 +12,8 @@ chosen-requires c κs = search needs
 
 returns : tie.Need-returns
 returns c =
-    let start = c .before .before .before in
+    let start = c .before .before in
     let h = data-digit (start .args .n) (start .args .kind) (search needs) in cc
 
 pub data-length-spec : {M : Type 1} → statement M
-data-length-spec = tie.close (tie.spec either-requires digit-requires chosen-requires returns)
+data-length-spec = tie.close (tie.spec digit-requires chosen-requires returns)

@@ -1,6 +1,9 @@
 -- The digit of the kind, the count and the time, each by its test.
-use borrow.Author.Needs.{needs}
+use Prim.Native.Nat.{_+_, _%_, _^_, _<_}
+use native.Mathlib.Nat.{div-le-self}
+use native.Mathlib.Omega.{arith}
 use Rattle.record.proofs.DigitLaws.{range-digit}
+use borrow.Author.Needs.{needs}
 use Rattle.record.proofs.kind.in_range.Statement.{statement}
 use Rattle.record.proofs.kind.in_range.Tie as tie
 
@@ -10,17 +13,32 @@ digit-requires c κs = search needs
 shr-above : tie.Need-shr-above
 shr-above c = search needs
 
+add-less-one : tie.Need-add-less-one
+add-less-one c = search needs
+
+digit-requires-2 : tie.Need-digit-requires-2
+digit-requires-2 c κs = search needs
+
+shr-over : tie.Need-shr-over
+shr-over c = search needs
+
 either-requires : tie.Need-either-requires
 either-requires c κs = search needs
+
+add-either : tie.Need-add-either
+add-either c = search needs
 
 either-requires-2 : tie.Need-either-requires-2
 either-requires-2 c κs = search needs
 
-count-in-range-requires : tie.Need-count-in-range-requires
-count-in-range-requires c κs = search needs
-
-either-requires-3 : tie.Need-either-requires-3
-either-requires-3 c κs = search needs
+add-both : tie.Need-add-both
+add-both c =
+    let start = c .before .before .before .before in
+    let digit = c .before .before .before .digit in
+    let s : start .args .a < 256 = search needs in
+    let p = div-le-self (start .args .a) (2 ^ (digit .result)) in
+    let q = div-le-self ((start .args .n + 255) % 256) (2 ^ (c .before .before .digit2 .result)) in
+    omega arith
 
 both-requires : tie.Need-both-requires
 both-requires c κs = search needs
@@ -30,8 +48,8 @@ both-requires-2 c κs = search needs
 
 returns : tie.Need-returns
 returns c =
-    let start = c .before .before .before .before .before .before .before in
-    let h = range-digit (start .args .a) (start .args .n) (search needs) (start .args .kind) (search needs) in cc
+    let start = c .before .before .before .before .before .before in
+    let h = range-digit (start .args .a) (start .args .n) (search needs) (search needs) (start .args .kind) (search needs) in cc
 
 pub in-range-spec : {M : Type 1} → statement M
 in-range-spec =
@@ -39,10 +57,13 @@ in-range-spec =
     (tie.spec
     digit-requires
     shr-above
+    add-less-one
+    digit-requires-2
+    shr-over
     either-requires
+    add-either
     either-requires-2
-    count-in-range-requires
-    either-requires-3
+    add-both
     both-requires
     both-requires-2
     returns)

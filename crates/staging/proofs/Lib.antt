@@ -1,0 +1,2 @@
+mod StagingCheckLaws
+mod CellPutLaws
