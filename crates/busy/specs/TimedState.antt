@@ -5,4 +5,4 @@ use Rattle.staging.specs.Fuel.{tearOf}
 use Rattle.busy.specs.declared.State.{State}
 
 abbrev pub stateOf : State → model.State
-stateOf s = record { volatile = volatileOf (s .volatile); busy = s .busy; off = s .off; tear = tearOf (s .tear) }
+stateOf s = record { volatile = volatileOf (s .volatile); busy = s .busy; off = s .power .off; tear = tearOf (s .power .tear) }

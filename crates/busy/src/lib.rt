@@ -22,26 +22,28 @@ use staging::tear::Tear;
 // The milliseconds that a write takes.
 pub const WRITE_TIME: u8 = 10;
 
-// The volatile state; for how many milliseconds the card is still busy, 0 when it is ready; whether it lost power in a write and is off; and
-// what is armed.
+// Whether the card lost power in a write and is off, and what is armed.
+pub struct Power {
+    pub off: bool,
+    pub tear: Tear,
+}
+
+// The volatile state; for how many milliseconds the card is still busy, 0 when it is ready; and its power.
 pub struct State {
     pub volatile: Volatile,
     pub busy: u8,
-    pub off: bool,
-    pub tear: Tear,
+    pub power: Power,
 }
 
 // The state with another volatile state and busy time.
 pub fn timed(state: State, volatile: Volatile, busy: u8) -> State
     ensures { λ r. ⌜ stateOf r ≡ model.timed (stateOf state) (volatileOf volatile) busy ⌝ }
 {
-    let off = state.off;
-    let tear = state.tear;
+    let power = state.power;
     State {
         volatile,
         busy,
-        off,
-        tear,
+        power,
     }
 }
 
@@ -51,12 +53,11 @@ pub fn arming(state: State, tear: Tear) -> State
 {
     let volatile = state.volatile;
     let busy = state.busy;
-    let off = state.off;
+    let off = state.power.off;
     State {
         volatile,
         busy,
-        off,
-        tear,
+        power: Power { off, tear },
     }
 }
 
@@ -67,8 +68,7 @@ pub fn powered_up(tear: Tear) -> State
     State {
         volatile: power_up(),
         busy: 0,
-        off: false,
-        tear,
+        power: Power { off: false, tear },
     }
 }
 
@@ -85,8 +85,10 @@ pub fn power_lost() -> State
     State {
         volatile: power_up(),
         busy: 0,
-        off: true,
-        tear: Tear::Untorn,
+        power: Power {
+            off: true,
+            tear: Tear::Untorn,
+        },
     }
 }
 
@@ -104,7 +106,7 @@ fn acts_busy(kind: u8) -> bool
     either(acts_always(kind), either(kind == 13, kind == 14))
 }
 
-// Whether a card is off or has a write to finish.
+// helper: whether a card is off or has a write to finish.
 pub fn is_halted(card: &[u8], off: bool) -> bool
     requires { ⌜ length (now card) ≡ cardSize ⌝ }
     ensures { λ r. ⌜ r ≡ (off || isReady at88sc1608 (now (card .entry))) ⌝ }

@@ -36,7 +36,8 @@ pub fn power_cycle(card: &mut [u8], state: State) -> Done
     requires { ⌜ (length (now card) ≡ cardSize) × (stagingFits (now card) ≡ true) ⌝ }
     ensures { λ r. ⌜ Performed (now (card .entry)) (stateOf state) powerCycle (now (card .exit)) (stateOf (r .state)) (r .tries) ⌝ }
 {
-    let tear = state.tear;
+    let power = state.power;
+    let tear = power.tear;
     if card[FLAG] != READY {
         return quiet(powered_up(tear));
     }
@@ -72,7 +73,8 @@ pub fn write_staged(card: &mut [u8], state: State, address: u8, bytes: &[u8]) ->
     }
     let mut values = [0u8; 8];
     final_values(card, volatile, address, bytes, &mut values);
-    let tear = state.tear;
+    let power = state.power;
+    let tear = power.tear;
     let zone = volatile.zone;
     let left = stage(
         card,

@@ -19,8 +19,8 @@ use Rattle.command.specs.CodeSecrecy.{Given, Run, none, one-more, run-mo
 
 -- the state before each call is off, and the one that the last call gave back is on
 abbrev pub OffThenOn : State → List Given → Type 0
-OffThenOn s [] = s .off ≡ false
-OffThenOn s (g ∷ gs) = (s .off ≡ true) × OffThenOn (g .reply .state) gs
+OffThenOn s [] = s .power .off ≡ false
+OffThenOn s (g ∷ gs) = (s .power .off ≡ true) × OffThenOn (g .reply .state) gs
 
 until-on : {xs : List Call} {c e : List ℕ} {s : State} {gs : List Given} → Run xs c s gs e → OffThenOn s gs → CalledUntilOn xs (powered c (stateOf s))
 unfolding CalledUntilOn

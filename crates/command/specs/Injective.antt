@@ -105,5 +105,6 @@ volatile-injective v w e =
 pub state-injective : (s u : State) → stateOf s ≡ stateOf u → s ≡ u
 state-injective s u e =
     let v = volatile-injective (s .volatile) (u .volatile) (λ i. e i .volatile) in
-    let t : s .tear ≡ u .tear = sym (tear-back (s .tear)) ∙ ap (λ (x : busy.State). tearFrom (x .tear)) e ∙ tear-back (u .tear) in
-    λ i. record { volatile = v i; busy = e i .busy; off = e i .off; tear = t i }
+    let t : s .power .tear ≡ u .power .tear =
+    sym (tear-back (s .power .tear)) ∙ ap (λ (x : busy.State). tearFrom (x .tear)) e ∙ tear-back (u .power .tear) in
+    λ i. record { volatile = v i; busy = e i .busy; power = record { off = e i .off; tear = t i } }

@@ -27,7 +27,7 @@ abbrev volatileFrom : model.Volatile → Volatile
 volatileFrom v = record { zone = record { 0 = v .zone }; active = activeFrom (v .active); authentication = authenticationFrom (v .authentication) }
 
 abbrev stateFrom : busy.State → State
-stateFrom s = record { volatile = volatileFrom (s .volatile); busy = s .busy; off = s .off; tear = tearFrom (s .tear) }
+stateFrom s = record { volatile = volatileFrom (s .volatile); busy = s .busy; power = record { off = s .off; tear = tearFrom (s .tear) } }
 
 abbrev givenFrom : calls.Reply busy.State → Given
 givenFrom r =

@@ -108,7 +108,7 @@ pub fn admit(card: &[u8], state: State, record: &[u8], room: usize) -> Decoded
                 return Decoded::Refused(Refusal::BytesLeft);
             }
             let head = head_of(record);
-            let halted = is_halted(card, state.off);
+            let halted = is_halted(card, state.power.off);
             if room < needed(halted, state.busy, head) {
                 return Decoded::Refused(Refusal::NoSpace);
             }

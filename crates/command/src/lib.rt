@@ -42,7 +42,7 @@ pub fn command(card: &mut [u8], state: State, record: &[u8], response: &mut [u8]
         },
         Decoded::Whole(_, end) => {
             let head = head_of(record);
-            let halted = is_halted(card, state.off);
+            let halted = is_halted(card, state.power.off);
             if is_ignored(halted, state.busy, head.kind) {
                 return Reply {
                     outcome: Outcome::Accepted,

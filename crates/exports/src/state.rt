@@ -11,6 +11,7 @@ use access::volatile::Active;
 use access::volatile::Authentication;
 use access::volatile::Volatile;
 use access::volatile::Zone;
+use busy::Power;
 use busy::State;
 use record::kind::both;
 use record::refusal::Outcome;
@@ -170,8 +171,10 @@ pub fn read_state(bytes: &[u8]) -> State
                 authentication: Authentication::Idle,
             },
             busy: 0,
-            off: false,
-            tear: Tear::Untorn,
+            power: Power {
+                off: false,
+                tear: Tear::Untorn,
+            },
         };
     }
     let active = active_read(bytes[1], bytes[2]);
@@ -184,8 +187,10 @@ pub fn read_state(bytes: &[u8]) -> State
             authentication,
         },
         busy: bytes[4],
-        off: bytes[5] == 1,
-        tear,
+        power: Power {
+            off: bytes[5] == 1,
+            tear,
+        },
     }
 }
 
@@ -206,8 +211,9 @@ pub fn write_state(bytes: &mut [u8], outcome: Outcome, state: State)
     bytes[2] = active_selector(active);
     bytes[3] = authentication_byte(authentication);
     bytes[4] = state.busy;
-    let tear = state.tear;
-    bytes[5] = off_byte(state.off);
+    let power = state.power;
+    let tear = power.tear;
+    bytes[5] = off_byte(power.off);
     bytes[6] = tear_flag(tear);
     bytes[7] = tear_cells(tear);
     bytes[8] = tear_junk(tear);

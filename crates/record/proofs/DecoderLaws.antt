@@ -44,43 +44,43 @@ module _ (part : List ℕ) where
         unfolding decode
         out-of-range e = rw (ne-eqb _ _ nonempty, ← kind, ← test, found, ← start, le-ltb _ _ fields, ← first, ← second, ← range, e)
 
-        module _ (m : ℕ) (within : not ok′ ≡ false) (length-is : m ≡ dataLength k n) where
-          pub data-absent : length part < 1 + s + m → refused cutShort ≡ measureOf (decode part)
+        module _ (m : ℕ) (within : not ok′ ≡ false) (length-is : m ≡ 1 + fixedFields k + dataLength k n) where
+          pub data-absent : length part < m → refused cutShort ≡ measureOf (decode part)
           unfolding decode
           data-absent e =
               rw (
                 ne-eqb _ _ nonempty,
                 ← kind,
+                ← first,
+                ← second,
+                ← length-is,
                 ← test,
                 found,
                 ← start,
                 le-ltb _ _ fields,
-                ← first,
-                ← second,
                 ← range,
                 within,
-                ← length-is,
                 lt-ltb _ _ e,
               )
 
-          pub all-there : (l : ℕ) → 1 + s + m ≤ length part → l ≡ fullAnswer at88sc1608 (made k 0 n []) → whole l (1 + s + m) ≡ measureOf (decode part)
+          pub all-there : (l : ℕ) → m ≤ length part → l ≡ fullAnswer at88sc1608 (made k 0 n []) → whole l m ≡ measureOf (decode part)
           unfolding decode
           all-there l e q =
               rw (
                 ne-eqb _ _ nonempty,
                 ← kind,
+                ← first,
+                ← second,
+                ← length-is,
                 ← test,
                 found,
                 ← start,
                 le-ltb _ _ fields,
-                ← first,
-                ← second,
                 ← range,
                 within,
-                ← length-is,
                 le-ltb _ _ e,
               )
-              (ap (λ (x : ℕ). whole x (1 + s + m)) (q ∙ made-answer a n _ k (sym test ∙ not-false ok found)))
+              (ap (λ (x : ℕ). whole x m) (q ∙ made-answer a n _ k (sym test ∙ not-false ok found)))
 
 -- ---- the record of a part whose lengths are known
 

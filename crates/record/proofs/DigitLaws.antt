@@ -1,5 +1,5 @@
 -- The columns of digits: what the code takes from a digit, or from the count, is what the model says of the kind.
-use Prim.Native.Nat.{ℕ, _+_, _-_, _*_, _/_, _%_, _^_, _≤_, _<_}
+use Prim.Native.Nat.{ℕ, _+_, _*_, _/_, _%_, _^_, _≤_, _<_}
 use mathlib.Core.Bool.{Bool, true, false, cond, not, _&&_, _||_}
 use mathlib.Core.List.{[]}
 use mathlib.Core.Path.{_≡_, refl, sym}
@@ -22,11 +22,21 @@ fields-digit k h =
     each-kind (λ k. digitOf 0x2011010022221002 k ≡ fixedFields k)
     refl refl refl refl refl refl refl refl refl refl refl refl refl refl refl refl k (within-known k h)
 
-pub data-digit : (n k : ℕ) → (1 ≤ k) × (k ≤ 16) → cond (eqb (digitOf 0xF0080300F0F00000 k) 15) n (digitOf 0xF0080300F0F00000 k) ≡ dataLength k n
-unfolding kinds dataLength
-data-digit n k h =
-    each-kind (λ k. cond (eqb (digitOf 0xF0080300F0F00000 k) 15) n (digitOf 0xF0080300F0F00000 k) ≡ dataLength k n)
-    refl refl refl refl refl refl refl refl refl refl refl refl refl refl refl refl k (within-known k h)
+module _ (n : ℕ) (short : n < 256) where
+  none-left : (m : ℕ) → m + n / 256 ≡ m
+  none-left m = omega arith
+
+  all-left : (m : ℕ) → m + n / 1 ≡ m + n
+  all-left m = omega arith
+
+  pub length-digit : (k : ℕ) → (1 ≤ k) × (k ≤ 16)
+      → digitOf 0x312A151133332113 k + n / 2 ^ digitOf 0x888888808088888 k ≡ 1 + fixedFields k + dataLength k n
+  unfolding kinds fixedFields dataLength
+  length-digit k h =
+      each-kind (λ k. digitOf 0x312A151133332113 k + n / 2 ^ digitOf 0x888888808088888 k ≡ 1 + fixedFields k + dataLength k n)
+      (none-left 1) (none-left 1) (none-left 2) (none-left 3) (all-left 3) (none-left 3) (all-left 3) (none-left 1)
+      (none-left 1) (none-left 5) (none-left 1) (none-left 10) (none-left 2) (none-left 1) (all-left 3) (none-left 3)
+      k (within-known k h)
 
 pub answer-digit : (n k : ℕ) → (1 ≤ k) × (k ≤ 16)
     → cond (eqb k 6) n (cond (eqb k 4) (cond (eqb n 0) 256 n) (digitOf 0x100000100000400 k)) ≡ fullAnswer at88sc1608 (made k 0 n [])
@@ -35,29 +45,21 @@ answer-digit n k h =
     each-kind (λ k. cond (eqb k 6) n (cond (eqb k 4) (cond (eqb n 0) 256 n) (digitOf 0x100000100000400 k)) ≡ fullAnswer at88sc1608 (made k 0 n []))
     refl refl refl refl refl refl refl refl refl refl refl refl refl refl refl refl k (within-known k h)
 
--- ---- the lengths of answers in a log
+-- the lengths of answers in a log
+pub fits-digit : (n k : ℕ) → (1 ≤ k) × (k ≤ 16)
+    → cond (eqb k 4) (leb 1 n && leb n 256) (cond (eqb k 6) (leb 1 n && leb n 128) (eqb n (digitOf 0x100000100000400 k))) ≡ lengthFits k n
+unfolding kinds lengthFits
+fits-digit n k h =
+    each-kind
+    (λ k. cond (eqb k 4) (leb 1 n && leb n 256) (cond (eqb k 6) (leb 1 n && leb n 128) (eqb n (digitOf 0x100000100000400 k))) ≡ lengthFits k n)
+    refl refl refl refl refl refl refl refl refl refl refl refl refl refl refl refl k (within-known k h)
+
+-- ---- the range of the fixed fields
 
 same : (s t : Bool) → (s ≡ true → t ≡ true) → (t ≡ true → s ≡ true) → s ≡ t
 same true t f g = sym (f refl)
 same false true f g = g refl
 same false false f g = refl
-
-between-same : (m n : ℕ) → (leb m n && leb n m) ≡ eqb n m
-between-same m n = same _ _ (λ e. eq-eqb n m (let p = leb-true m n (and-left (leb m n) _ e) in let q = leb-true n m (and-right (leb m n) _ e) in omega arith))
-    (λ e. let q = eqb-true n m e in rw (le-leb m n (omega arith), le-leb n m (omega arith)))
-
-abbrev lengthDigits : ℕ → ℕ → Bool
-lengthDigits n k = leb (digitOf 0x100000101010400 k) n && leb n (65536 / 2 ^ (17 - digitOf 0x100000108090300 k))
-
-pub fits-digit : (n k : ℕ) → (1 ≤ k) × (k ≤ 16) → lengthDigits n k ≡ lengthFits k n
-unfolding kinds lengthFits
-fits-digit n k h =
-    each-kind (λ k. lengthDigits n k ≡ lengthFits k n)
-    (between-same 0 n) (between-same 4 n) (between-same 0 n) refl (between-same 0 n) refl (between-same 0 n) (between-same 1 n)
-    (between-same 0 n) (between-same 0 n) (between-same 0 n) (between-same 0 n) (between-same 0 n) (between-same 1 n) (between-same 0 n) (between-same 0 n)
-    k (within-known k h)
-
--- ---- the range of the fixed fields
 
 and-true : (t : Bool) → t && true ≡ t
 and-true true = refl

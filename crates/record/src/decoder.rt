@@ -4,11 +4,11 @@ ghost use lib.ListN.{getD};
 ghost use Rattle.model.specs.Record as model;
 ghost use Rattle.record.specs.DecodedRecord.{decodedOf, recordOf, headOf, measuredOf, measureOf};
 use crate::kind::answer_length;
-use crate::kind::data_length;
 use crate::kind::fixed_fields;
 use crate::kind::in_range;
 use crate::kind::is_known;
 use crate::kind::read_count;
+use crate::kind::record_length;
 use crate::refusal::Refusal;
 use access::volatile::Zone;
 
@@ -122,7 +122,7 @@ pub fn measure(part: &[u8]) -> Measured
     if !in_range(kind, a, n) {
         return Measured::Refused(Refusal::FieldOutOfRange);
     }
-    let end = start + data_length(kind, n);
+    let end = record_length(kind, n);
     if part.len() < end {
         return Measured::Refused(Refusal::CutShort);
     }

@@ -3,48 +3,45 @@ ghost use mathlib.Core.Path.{_≡_};
 ghost use mathlib.Core.Bool.{cond, _&&_};
 ghost use mathlib.Core.List.{[]};
 ghost use Prim.Native.Nat.{_+_, _*_, _/_, _%_, _^_, _≤_};
-ghost use lib.Dec.{eqb, leb};
+ghost use lib.Dec.{eqb};
 ghost use Rattle.model.specs.At88sc1608.{at88sc1608};
 ghost use Rattle.model.specs.Record as model;
 ghost use Rattle.laws.specs.BusyLaws.{fullAnswer};
 use access::rights::either;
 
 // A hexadecimal digit for each kind: a column of this table, read downwards, is a constant. The lowest digit, which no kind 0 needs, is that
-// of kind 16. A count less one has the bits of the third column; where n stands the count says it: such a digit is 15 for the data, and not used
-// for the answer. The last two columns are the lengths that an answer in a log may have: the least, and the bits of the greatest, which has its
-// highest bit alone.
+// of kind 16. A count less one has the bits of the third column. A record has the bytes of the fourth, and as many data bytes as are left of the
+// count when it is shifted by the fifth: all of it, or nothing. Where n stands the count says how long the answer is, and the digit is not used.
 //
-//                               fixed     bits of the    bits of    data     answer    least     bits of the
-//   kind                        fields    first field    a count    bytes    bytes     length    greatest
-//   15 staged write             2            8           3        15 n      0         0         0
-//   14 poll                     0            8           8         0        1         1         1
-//   13 wait                     1            8           8         0        0         0         0
-//   12 verify authentication    1            1           8         8        0         0         0
-//   11 begin authentication     0            8           8         0        0         0         0
-//   10 verify password          1            4           8         3        0         0         0
-//    9 write fuses              0            8           8         0        0         0         0
-//    8 read fuses               0            8           8         0        1         1         1
-//    7 write configuration      2            7           4        15 n      0         0         0
-//    6 read configuration       2            7           7         0        0 n       1         8
-//    5 write zone               2            8           4        15 n      0         0         0
-//    4 read zone                2            8           8         0        0 n       1         9
-//    3 select                   1            3           8         0        0         0         0
-//    2 reset                    0            8           8         0        4         4         3
-//    1 power cycle              0            8           8         0        0         0         0
-//   16 arm                      2            8           8         0        0         0         0
+//                               fixed     bits of the    bits of    least      shift of     answer
+//   kind                        fields    first field    a count    bytes      the count    bytes
+//   15 staged write             2            8           3          3 and n    0            0
+//   14 poll                     0            8           8          1          8            1
+//   13 wait                     1            8           8          2          8            0
+//   12 verify authentication    1            1           8         10          8            0
+//   11 begin authentication     0            8           8          1          8            0
+//   10 verify password          1            4           8          5          8            0
+//    9 write fuses              0            8           8          1          8            0
+//    8 read fuses               0            8           8          1          8            1
+//    7 write configuration      2            7           4          3 and n    0            0
+//    6 read configuration       2            7           7          3          8            0 n
+//    5 write zone               2            8           4          3 and n    0            0
+//    4 read zone                2            8           8          3          8            0 n
+//    3 select                   1            3           8          2          8            0
+//    2 reset                    0            8           8          1          8            4
+//    1 power cycle              0            8           8          1          8            0
+//   16 arm                      2            8           8          3          8            0
 const FIXED_FIELDS: u64 = 0x2011_0100_2222_1002;
 
 const FIRST_FIELD_BITS: u64 = 0x8881_8488_7788_3888;
 
 const COUNT_BITS: u64 = 0x3888_8888_4748_8888;
 
-const DATA_BYTES: u64 = 0xF008_0300_F0F0_0000;
+const LEAST_BYTES: u64 = 0x312A_1511_3333_2113;
+
+const COUNT_SHIFT: u64 = 0x0888_8888_0808_8888;
 
 const ANSWER_BYTES: u64 = 0x0100_0001_0000_0400;
-
-const LEAST_LENGTH: u64 = 0x0100_0001_0101_0400;
-
-const GREATEST_BITS: u64 = 0x0100_0001_0809_0300;
 
 pub fn both(a: bool, b: bool) -> bool
     ensures { λ r. ⌜ r ≡ (a && b) ⌝ }
@@ -100,21 +97,14 @@ pub fn in_range(kind: u8, a: u8, n: u8) -> bool
     both(timed, both(inside, above + over == 0))
 }
 
-// helper: how many data bytes follow.
-pub fn data_length(kind: u8, n: u8) -> usize
-    requires { ⌜ (1 ≤ kind) × (kind ≤ 16) ⌝ }
-    ensures { λ r. ⌜ r ≡ model.dataLength kind n ⌝ }
-{
-    let bytes = digit(DATA_BYTES, kind);
-    chosen(bytes == 15, n as usize, bytes)
-}
-
 // helper: how long a record is.
 pub fn record_length(kind: u8, n: u8) -> usize
     requires { ⌜ (1 ≤ kind) × (kind ≤ 16) ⌝ }
     ensures { λ r. ⌜ r ≡ 1 + model.fixedFields kind + model.dataLength kind n ⌝ }
 {
-    1 + fixed_fields(kind) + data_length(kind, n)
+    let least = digit(LEAST_BYTES, kind);
+    let data = n as usize >> digit(COUNT_SHIFT, kind);
+    least + data
 }
 
 // How many bytes a zone read asks for: 0 stands for 256.
@@ -142,7 +132,11 @@ pub fn length_fits(kind: u8, response: usize) -> bool
     requires { ⌜ (1 ≤ kind) × (kind ≤ 16) ⌝ }
     ensures { λ r. ⌜ r ≡ model.lengthFits kind response ⌝ }
 {
-    let least = digit(LEAST_LENGTH, kind);
-    let greatest = 65536 >> (17 - digit(GREATEST_BITS, kind));
-    both(least <= response, response <= greatest)
+    if kind == 4 {
+        return both(1 <= response, response <= 256);
+    }
+    if kind == 6 {
+        return both(1 <= response, response <= 128);
+    }
+    response == digit(ANSWER_BYTES, kind)
 }

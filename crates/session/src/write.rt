@@ -43,7 +43,7 @@ fn write_entry(
         (now (card .exit)) (stateOf (r .state)) (r .end) (now (log .exit)) ⌝ }
 {
     let zone = state.volatile.zone.0;
-    let halted = is_halted(card, state.off);
+    let halted = is_halted(card, state.power.off);
     if is_ignored(halted, state.busy, head.kind) {
         let end = put_header(log, place, head.kind + 128, 0, zone);
         return Entered { state, end };
@@ -54,13 +54,12 @@ fn write_entry(
     let done = carry_out(card, state, head, part, end, &mut log[from..]);
     let after = done.state;
     let volatile = after.volatile;
-    let tear = after.tear;
+    let power = after.power;
     Entered {
         state: State {
             volatile,
             busy: after.busy,
-            off: after.off,
-            tear,
+            power,
         },
         end: from + response,
     }

@@ -17,7 +17,7 @@ quiet-requires c κs = search needs
 
 returns : tie.Need-returns
 returns c =
-    let start = c .before .before .before .before .before in
+    let start = c .before .before .before .before .before .before in
     cycle-idle (start .args .card .now) (stateOf (start .args .state)) _ _ _ (c .before .before .if1 .taken) (c .quiet .ensures .0) (c .quiet .ensures .1)
     (c .before .powered-up .ensures)
 
@@ -38,7 +38,7 @@ slice-read-count c = search needs
 
 cast-count : tie.Need-cast-count
 cast-count c =
-    let start = c .before .before .before .before .before .before in
+    let start = c .before .before .before .before .before .before .before in
     let if1 = c .before .before .before .if1 in
     let l = ready-length (start .args .card .now) (stateOf (start .args .state)) (start .pre .1) (start .pre .0) (if1 .left) in search needs
 
@@ -47,7 +47,7 @@ slice-aggregate-copy c = search needs
 
 copy-requires : tie.Need-copy-requires
 copy-requires c κs =
-    let start = c .before .before .before .before .before .before .before .before in
+    let start = c .before .before .before .before .before .before .before .before .before in
     let if1 = c .before .before .before .before .before .if1 in
     let l = ready-length (start .args .card .now) (stateOf (start .args .state)) (start .pre .1) (start .pre .0) (if1 .left) in search needs
 
@@ -59,7 +59,7 @@ part-finish-start c = search needs
 
 part-finish-end : tie.Need-part-finish-end
 part-finish-end c =
-    let start = c .before .before .before .before .before .before .before .before .before .before .before .before in
+    let start = c .before .before .before .before .before .before .before .before .before .before .before .before .before in
     let if1 = c .before .before .before .before .before .before .before .before .before .if1 in
     let l = ready-length (start .args .card .now) (stateOf (start .args .state)) (start .pre .1) (start .pre .0) (if1 .left) in search needs
 
@@ -71,10 +71,11 @@ junk-requires c κs = search needs
 
 finish-requires : tie.Need-finish-requires
 finish-requires c κs =
-    let start = c .before .before .before .before .before .before .before .before .before .before .before .before .before .before .before in
+    let start = c .before .before .before .before .before .before .before .before .before .before .before .before .before .before .before .before in
     let if1 = c .before .before .before .before .before .before .before .before .before .before .before .before .if1 in
     let z = ready-zone (start .args .card .now) (stateOf (start .args .state)) (start .pre .1) (start .pre .0) (if1 .left) in
-    let l = ready-length (start .args .card .now) (stateOf (start .args .state)) (start .pre .1) (start .pre .0) (if1 .left) in search needs
+    let l = ready-length (start .args .card .now) (stateOf (start .args .state)) (start .pre .1) (start .pre .0) (if1 .left) in
+    search needs
 
 power-lost-requires : tie.Need-power-lost-requires
 power-lost-requires c κs = search needs
@@ -88,7 +89,7 @@ same-length c = search needs
 returns-2 : tie.Need-returns-2
 returns-2 c =
     let start = c .before .before .before .before .before .before .before .before .before .before .before .before .before .before .before .before .before
-    .before .before .before .before in
+    .before .before .before .before .before in
     let if1 = c .before .before .before .before .before .before .before .before .before .before .before .before .before .before .before .before .before
     .before .if1 in
     let copy = c .before .before .before .before .before .before .before .before .before .before .before .before .copy in
@@ -111,7 +112,7 @@ same-length-2 c = search needs
 returns-3 : tie.Need-returns-3
 returns-3 c =
     let start = c .before .before .before .before .before .before .before .before .before .before .before .before .before .before .before .before .before
-    .before .before .before .before in
+    .before .before .before .before .before in
     let if1 = c .before .before .before .before .before .before .before .before .before .before .before .before .before .before .before .before .before
     .before .if1 in
     let copy = c .before .before .before .before .before .before .before .before .before .before .before .before .copy in

@@ -61,11 +61,12 @@ same-length-2 c = search needs
 returns-2 : tie.Need-returns-2
 returns-2 c =
     let start = c .before .before .before .before .before .before .before .before .before .before .before .before .before .before .before .before .before
-    .before .before .before .before .before .before in
+    .before .before .before .before .before .before .before in
     let may-stage = c .before .before .before .before .before .before .before .before .before .before .before .before .before .before .before .before
-    .before .may-stage in
-    let if1 = c .before .before .before .before .before .before .before .before .before .before .before .before .before .before .before .before .if1 in
-    let final-values = c .before .before .before .before .before .before .before .before .before .before .before .before .before .final-values in
+    .before .before .may-stage in
+    let if1 = c .before .before .before .before .before .before .before .before .before .before .before .before .before .before .before .before .before
+    .if1 in
+    let final-values = c .before .before .before .before .before .before .before .before .before .before .before .before .before .before .final-values in
     let fuel = c .before .before .before .before .before .before .before .fuel in
     let junk = c .before .before .before .before .before .before .junk in
     let stage = c .before .before .before .before .before .stage in
@@ -86,13 +87,14 @@ same-length-3 c = search needs
 returns-3 : tie.Need-returns-3
 returns-3 c =
     let start = c .before .before .before .before .before .before .before .before .before .before .before .before .before .before .before .before .before
-    .before .before .before .before .before .before in
+    .before .before .before .before .before .before .before in
     let timed = c .before .before .before .before .before .before .before .before .before .before .before .before .before .before .before .before .before
-    .before .before .timed in
+    .before .before .before .timed in
     let may-stage = c .before .before .before .before .before .before .before .before .before .before .before .before .before .before .before .before
-    .before .may-stage in
-    let if1 = c .before .before .before .before .before .before .before .before .before .before .before .before .before .before .before .before .if1 in
-    let final-values = c .before .before .before .before .before .before .before .before .before .before .before .before .before .final-values in
+    .before .before .may-stage in
+    let if1 = c .before .before .before .before .before .before .before .before .before .before .before .before .before .before .before .before .before
+    .if1 in
+    let final-values = c .before .before .before .before .before .before .before .before .before .before .before .before .before .before .final-values in
     let fuel = c .before .before .before .before .before .before .before .fuel in
     let junk = c .before .before .before .before .before .before .junk in
     let stage = c .before .before .before .before .before .stage in

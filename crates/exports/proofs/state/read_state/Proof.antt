@@ -52,20 +52,20 @@ shared-slice-read-tear-read-3 c =
 tear-read-requires : tie.Need-tear-read-requires
 tear-read-requires c κs = search needs
 
-shared-slice-read-t15 : tie.Need-shared-slice-read-t15
-shared-slice-read-t15 c =
+shared-slice-read-t16 : tie.Need-shared-slice-read-t16
+shared-slice-read-t16 c =
     let is-state = c .before .before .before .before .before .before .before .before .before .before .before .is-state in
     let if1 = c .before .before .before .before .before .before .before .before .before .before .if1 in
     let l = all-nine _ _ (is-state .ensures) (if1 .left) in omega arith
 
-shared-slice-read-t20 : tie.Need-shared-slice-read-t20
-shared-slice-read-t20 c =
+shared-slice-read-t21 : tie.Need-shared-slice-read-t21
+shared-slice-read-t21 c =
     let is-state = c .before .before .before .before .before .before .before .before .before .before .before .before .is-state in
     let if1 = c .before .before .before .before .before .before .before .before .before .before .before .if1 in
     let l = all-nine _ _ (is-state .ensures) (if1 .left) in omega arith
 
-shared-slice-read-t13 : tie.Need-shared-slice-read-t13
-shared-slice-read-t13 c =
+shared-slice-read-t14 : tie.Need-shared-slice-read-t14
+shared-slice-read-t14 c =
     let is-state = c .before .before .before .before .before .before .before .before .before .before .before .before .before .is-state in
     let if1 = c .before .before .before .before .before .before .before .before .before .before .before .before .if1 in
     let l = all-nine _ _ (is-state .ensures) (if1 .left) in omega arith
@@ -94,7 +94,7 @@ read-state-spec =
     shared-slice-read-tear-read-2
     shared-slice-read-tear-read-3
     tear-read-requires
-    shared-slice-read-t15
-    shared-slice-read-t20
-    shared-slice-read-t13
+    shared-slice-read-t16
+    shared-slice-read-t21
+    shared-slice-read-t14
     returns-2)

@@ -25,7 +25,8 @@ active-flag-requires c κs = search needs
 
 slice-write-bytes-2 : tie.Need-slice-write-bytes-2
 slice-write-bytes-2 c =
-    let l = c .before .before .before .before .before .pre (ap outcomeNumber (c .before .before .enum-told2 .given .1)) in simp length-set (omega arith)
+    let l = c .before .before .before .before .before .pre (ap outcomeNumber (c .before .before .enum-told2 .given .1)) in
+    simp length-set (omega arith)
 
 active-selector-requires : tie.Need-active-selector-requires
 active-selector-requires c κs = search needs
@@ -53,8 +54,8 @@ off-byte-requires c κs = search needs
 
 slice-write-bytes-6 : tie.Need-slice-write-bytes-6
 slice-write-bytes-6 c =
-    let l = c .before .before .before .before .before .before .before .before .pre
-    (ap outcomeNumber (c .before .before .before .before .before .enum-told2 .given .1)) in
+    let l = c .before .before .before .before .before .before .before .before .before .pre
+    (ap outcomeNumber (c .before .before .before .before .before .before .enum-told2 .given .1)) in
     simp length-set (omega arith)
 
 tear-flag-requires : tie.Need-tear-flag-requires
@@ -62,8 +63,8 @@ tear-flag-requires c κs = search needs
 
 slice-write-bytes-7 : tie.Need-slice-write-bytes-7
 slice-write-bytes-7 c =
-    let l = c .before .before .before .before .before .before .before .before .before .pre
-    (ap outcomeNumber (c .before .before .before .before .before .before .enum-told2 .given .1)) in
+    let l = c .before .before .before .before .before .before .before .before .before .before .pre
+    (ap outcomeNumber (c .before .before .before .before .before .before .before .enum-told2 .given .1)) in
     simp length-set (omega arith)
 
 tear-cells-requires : tie.Need-tear-cells-requires
@@ -71,8 +72,8 @@ tear-cells-requires c κs = search needs
 
 slice-write-bytes-8 : tie.Need-slice-write-bytes-8
 slice-write-bytes-8 c =
-    let l = c .before .before .before .before .before .before .before .before .before .before .pre
-    (ap outcomeNumber (c .before .before .before .before .before .before .before .enum-told2 .given .1)) in
+    let l = c .before .before .before .before .before .before .before .before .before .before .before .pre
+    (ap outcomeNumber (c .before .before .before .before .before .before .before .before .enum-told2 .given .1)) in
     simp length-set (omega arith)
 
 tear-junk-requires : tie.Need-tear-junk-requires
@@ -80,8 +81,8 @@ tear-junk-requires c κs = search needs
 
 slice-write-bytes-9 : tie.Need-slice-write-bytes-9
 slice-write-bytes-9 c =
-    let l = c .before .before .before .before .before .before .before .before .before .before .before .pre
-    (ap outcomeNumber (c .before .before .before .before .before .before .before .before .enum-told2 .given .1)) in
+    let l = c .before .before .before .before .before .before .before .before .before .before .before .before .pre
+    (ap outcomeNumber (c .before .before .before .before .before .before .before .before .before .enum-told2 .given .1)) in
     simp length-set (omega arith)
 
 same-length : tie.Need-same-length
@@ -89,15 +90,15 @@ same-length c = simp length-set refl
 
 returns-2 : tie.Need-returns-2
 returns-2 c =
-    let start = c .before .before .before .before .before .before .before .before .before .before .before in
-    let enum-told2 = c .before .before .before .before .before .before .before .before .enum-told2 in
-    let active-flag = c .before .before .before .before .before .before .active-flag in
-    let active-selector = c .before .before .before .before .before .active-selector in
-    let authentication-byte = c .before .before .before .before .authentication-byte in
+    let start = c .before .before .before .before .before .before .before .before .before .before .before .before in
+    let enum-told2 = c .before .before .before .before .before .before .before .before .before .enum-told2 in
+    let active-flag = c .before .before .before .before .before .before .before .active-flag in
+    let active-selector = c .before .before .before .before .before .before .active-selector in
+    let authentication-byte = c .before .before .before .before .before .authentication-byte in
     let off-byte = c .before .before .before .off-byte in
     rewritten _ _ _ _ _ _ _ _ _ _ (enum-told2 .given .1) (start .pre (ap outcomeNumber (enum-told2 .given .1))) (active-flag .ensures)
-    (active-selector .ensures) (authentication-byte .ensures) (off-byte .ensures) (c .before .before .tear-flag .ensures)
-    (c .before .tear-cells .ensures) (c .tear-junk .ensures)
+    (active-selector .ensures) (authentication-byte .ensures) (off-byte .ensures) (c .before .before .tear-flag .ensures) (c .before .tear-cells .ensures)
+    (c .tear-junk .ensures)
 
 pub write-state-spec : {M : Type 1} → statement M
 write-state-spec =

@@ -1,8 +1,7 @@
 -- Each return by the tests that led to it, in their order.
-use Prim.Native.Nat.{_<_}
 use native.Mathlib.Omega.{arith}
 use borrow.Author.Needs.{needs}
-use Rattle.laws.specs.RecordLaws.{fixed-small, data-small}
+use Rattle.laws.specs.RecordLaws.{fixed-small}
 use Rattle.record.proofs.DecoderLaws.{kind-within, no-kind, unknown, fields-absent, out-of-range, data-absent, all-there}
 use Rattle.record.proofs.decoder.measure.Statement.{statement}
 use Rattle.record.proofs.decoder.measure.Tie as tie
@@ -43,20 +42,11 @@ in-range-requires c κs =
 returns-4 : tie.Need-returns-4
 returns-4 c = search out-of-range
 
-data-length-requires : tie.Need-data-length-requires
-data-length-requires c κs =
+record-length-requires : tie.Need-record-length-requires
+record-length-requires c κs =
     let is-known = c .before .before .before .before .before .before .before .is-known in
     let if2 = c .before .before .before .before .before .before .if2 in
     kind-within _ _ (is-known .ensures) (if2 .left)
-
-add-end : tie.Need-add-end
-add-end c =
-    let byte-at = c .before .before .before .before .before .before .before .before .before .byte-at in
-    let fixed-fields = c .before .before .before .before .before .before .fixed-fields in
-    let byte-at3 = c .before .before .before .byte-at3 in
-    let n : byte-at3 .result < 256 = search needs in
-    rw (fixed-fields .ensures, c .data-length .ensures)
-    (omega (arith, fixed-small (byte-at .result), data-small (byte-at .result) (byte-at3 .result) n))
 
 returns-5 : tie.Need-returns-5
 returns-5 c = search data-absent
@@ -85,8 +75,7 @@ measure-spec =
     byte-at-requires-3
     in-range-requires
     returns-4
-    data-length-requires
-    add-end
+    record-length-requires
     returns-5
     answer-length-requires
     returns-6)

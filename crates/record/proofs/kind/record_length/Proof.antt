@@ -1,30 +1,33 @@
--- The sum of the three parts.
-use Prim.Native.Nat.{_<_}
+-- The two digits of the kind, and the count.
+use Prim.Native.Nat.{_^_, _<_}
+use native.Mathlib.Nat.{div-le-self}
 use native.Mathlib.Omega.{arith}
-use Rattle.laws.specs.RecordLaws.{fixed-small, data-small}
 use borrow.Author.Needs.{needs}
+use Rattle.record.proofs.DigitLaws.{length-digit}
 use Rattle.record.proofs.kind.record_length.Statement.{statement}
 use Rattle.record.proofs.kind.record_length.Tie as tie
 
-fixed-fields-requires : tie.Need-fixed-fields-requires
-fixed-fields-requires c κs = search needs
+digit-requires : tie.Need-digit-requires
+digit-requires c κs = search needs
+
+digit-requires-2 : tie.Need-digit-requires-2
+digit-requires-2 c κs = search needs
+
+shr-data : tie.Need-shr-data
+shr-data c = search needs
 
 add-result : tie.Need-add-result
-add-result c = rw (c .fixed-fields .ensures) (omega (arith, fixed-small (c .before .args .kind)))
-
-data-length-requires : tie.Need-data-length-requires
-data-length-requires c κs = search needs
-
-add-result-2 : tie.Need-add-result-2
-add-result-2 c =
+add-result c =
     let start = c .before .before in
     let n : start .args .n < 256 = search needs in
-    rw (c .before .fixed-fields .ensures, c .data-length .ensures)
-    (omega (arith, fixed-small (start .args .kind), data-small (start .args .kind) (start .args .n) n))
+    let d : c .before .digit .result < 16 = rw (c .before .digit .ensures) (omega arith) in
+    let p = div-le-self (start .args .n) (2 ^ (c .digit2 .result)) in
+    omega arith
 
 returns : tie.Need-returns
-returns c = search needs
+returns c =
+    let start = c .before .before in
+    let h = length-digit (start .args .n) (search needs) (start .args .kind) (search needs) in cc
 
 pub record-length-spec : {M : Type 1} → statement M
-record-length-spec =
-    tie.close (tie.spec fixed-fields-requires add-result data-length-requires add-result-2 returns)
+record-length-spec = tie.close (tie.spec digit-requires digit-requires-2 shr-data add-result returns)

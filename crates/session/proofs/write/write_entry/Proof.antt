@@ -95,14 +95,16 @@ carry-out-requires c κs =
 
 add-t29 : tie.Need-add-t29
 add-t29 c =
-    let w = response-room _ _ _ _ (c .before .before .before .before .before .before .before .before .before .before .before .before .before .before
-    .before .before .before .before .before .before .before .before .pre .1) _ (c .before .before .before .before .before .before .before .before .before
-    .before .before .before .before .before .before .before .before .before .before .before .before .before .pre .0) _ _
-    (c .before .before .before .before .before .before .before .before .before .before .before .before .before .before .answer-length .ensures)
-    (c .before .before .before .before .before .before .before .before .before .before .before .before .put-header2 .ensures .1) in
-    let l = c .before .before .before .before .before .before .before .before .before .before .before .before .put-header2 .kept .0 in
+    let w = response-room _ _ _ _
+    (c .before .before .before .before .before .before .before .before .before .before .before .before .before .before .before .before .before .before
+    .before .before .before .before .before .pre .1) _
+    (c .before .before .before .before .before .before .before .before .before .before .before .before .before .before .before .before .before .before
+    .before .before .before .before .before .pre .0) _ _
+    (c .before .before .before .before .before .before .before .before .before .before .before .before .before .before .before .answer-length .ensures)
+    (c .before .before .before .before .before .before .before .before .before .before .before .before .before .put-header2 .ensures .1) in
+    let l = c .before .before .before .before .before .before .before .before .before .before .before .before .before .put-header2 .kept .0 in
     let b = c .before .before .before .before .before .before .before .before .before .before .before .before .before .before .before .before .before
-    .before .before .before .before .before .good .1 .1 .1 .1 .0 .0 in
+    .before .before .before .before .before .before .good .1 .1 .1 .1 .0 .0 in
     omega arith
 
 same-length-3 : tie.Need-same-length-3
@@ -114,16 +116,17 @@ same-length-4 c = search needs
 returns-2 : tie.Need-returns-2
 returns-2 c =
     let start = c .before .before .before .before .before .before .before .before .before .before .before .before .before .before .before .before .before
-    .before .before .before .before .before in
+    .before .before .before .before .before .before in
     let is-halted = c .before .before .before .before .before .before .before .before .before .before .before .before .before .before .before .before
-    .before .is-halted in
+    .before .before .is-halted in
     let is-ignored = c .before .before .before .before .before .before .before .before .before .before .before .before .before .before .before .before
-    .is-ignored in
-    let if1 = c .before .before .before .before .before .before .before .before .before .before .before .before .before .before .before .if1 in
-    let answer-length = c .before .before .before .before .before .before .before .before .before .before .before .before .before .before .answer-length in
-    let put-header2 = c .before .before .before .before .before .before .before .before .before .before .before .before .put-header2 in
-    let record-length = c .before .before .before .before .before .before .before .before .before .record-length in
-    let carry-out = c .before .before .before .before .before .before .carry-out in
+    .before .is-ignored in
+    let if1 = c .before .before .before .before .before .before .before .before .before .before .before .before .before .before .before .before .if1 in
+    let answer-length = c .before .before .before .before .before .before .before .before .before .before .before .before .before .before .before
+    .answer-length in
+    let put-header2 = c .before .before .before .before .before .before .before .before .before .before .before .before .before .put-header2 in
+    let record-length = c .before .before .before .before .before .before .before .before .before .before .record-length in
+    let carry-out = c .before .before .before .before .before .before .before .carry-out in
     entry-written _ _ _ _ (start .pre .1) _ (start .pre .0) _ _ (is-halted .ensures) (is-ignored .ensures) (if1 .left) _ _ _ _ (answer-length .ensures)
     (put-header2 .ensures .0) (put-header2 .ensures .1) (record-length .ensures) _ _ refl refl _ _ _ _ (carry-out .ensures)
 
