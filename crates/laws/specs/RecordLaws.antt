@@ -224,7 +224,7 @@ decode-front part k n e =
         (ap (λ (m : ℕ). take (dataLength (at part 0) (at part 2)) (drop (dataAt part) (take m part))) (sym (a .size))
         ∙ front-part (dataAt part) (dataLength (at part 0) (at part 2)) part (a .within))
 
--- ---- how long a record can be
+-- ---- how many fixed fields a record can have
 
 pub fixed-small : (kind : ℕ) → fixedFields kind ≤ 2
 unfolding kinds fixedFields
@@ -232,11 +232,3 @@ fixed-small =
     each-row (λ (r : Kind). r .fixed ≤ 2)
     (omega arith) (omega arith) (omega arith) (omega arith) (omega arith) (omega arith) (omega arith) (omega arith)
     (omega arith) (omega arith) (omega arith) (omega arith) (omega arith) (omega arith) (omega arith) (omega arith)
-
-pub data-small : (kind n : ℕ) → n < 256 → dataLength kind n < 256
-unfolding kinds dataLength
-data-small kind n h =
-    each-row (λ (r : Kind). r .follow n < 256)
-    (omega arith) (omega arith) (omega arith) (omega arith) h (omega arith)
-    h (omega arith) (omega arith) (omega arith) (omega arith) (omega arith) (omega arith) (omega arith) h (omega arith)
-    kind
