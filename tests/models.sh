@@ -1,8 +1,8 @@
 #!/usr/bin/env bash
-# Wrong models, each of which must be refused. A file tests/models/NAME.edit changes crate `model` (and where a law has to follow, that law).
-# Either it names a computed table of the model: the model with no other table must be refused there, and at no other place. Or it names the
-# crate that refuses it: the model without its tables must still be proved, and that crate must not be.
-# Lines of an edit: 'refused-by: CRATE', 'table: NAME' where the crate is `model`, 'file: PATH' below crates/, and 'old:' and 'new:' pairs, each
+# Wrong models, each of which must be refused, while the model's definitions are still proved. A file tests/models/NAME.edit changes crate `model`
+# (and where a law has to follow, that law) and names the crate that refuses it: where that is one of the computed tables, also the table, and
+# then there is no other one, and the error must stand in it.
+# Lines of an edit: 'refused-by: CRATE', 'table: NAME' where the crate has tables, 'file: PATH' below crates/, and 'old:' and 'new:' pairs, each
 # old text unique.
 set -euo pipefail
 top=$(cd "$(dirname "${BASH_SOURCE[0]}")/.." && pwd)
@@ -21,31 +21,29 @@ replace() { # FILE OLD NEW
     mv "$1.edited" "$1"
 }
 
-# The crates that CRATE needs and itself, the model with no computed table but TABLE.
+# The crates that CRATE needs and itself, with no computed table but TABLE.
 copy() { # ROOM CRATE TABLE
-    local crate table
+    local crate file table
     for crate in $(sed -n "s/^$2: *//p" "$top/crates.txt") "$2"; do
         cp -R "$top/crates/$crate" "$1/crates/"
         grep "^$crate:" "$top/crates.txt" >>"$1/crates.txt"
     done
+    [ -n "$3" ] || return 0
     # the tables cite `Computed`
-    for table in $(cd "$1/crates/model/specs" && grep -l 'specs\.Computed\.{computed}' -- *.antt); do
-        table=${table%.antt}
+    for file in $(grep -l 'specs\.Computed\.{computed}' "$1"/crates/*/specs/*.antt); do
+        table=$(basename "$file" .antt)
         [ "$table" != "$3" ] || continue
-        rm "$1/crates/model/specs/$table.antt"
-        replace "$1/crates/model/specs/Lib.antt" "pub mod $table"$'\n' ''
+        rm "$file"
+        replace "$(dirname "$file")/Lib.antt" "pub mod $table"$'\n' ''
     done
 }
 
-# Whether the log says that CRATE is refused, and nothing else is: the model's definitions are proved.
+# Whether the log says that CRATE itself is refused, so that all it needs is proved, and of a table's crate nothing but that table.
 refused() { # LOG CRATE TABLE
-    grep -q "^rt: $2 NOT PROVED" "$1" || return 1
-    if [ -n "$3" ]; then
-        grep -q "crates/model/specs/$3\.antt:[0-9:]* error" "$1" || return 1
-        ! grep -o 'crates/model/[^ ]*: error' "$1" | grep -qv "^crates/model/specs/$3\.antt:"
-    else
-        grep -q '^rt: model proved' "$1"
-    fi
+    grep -q "^rt: $2 NOT PROVED (exit 1" "$1" || return 1
+    [ -n "$3" ] || return 0
+    grep -q "crates/$2/specs/$3\.antt:[0-9:]* error" "$1" || return 1
+    ! grep -o 'crates/[^ ]*: error' "$1" | grep -qv "^crates/$2/specs/$3\.antt:"
 }
 
 try() { # EDIT

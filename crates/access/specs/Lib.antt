@@ -1,3 +1,3 @@
-pub mod State
+pub mod VolatileState
 pub mod Register
 pub mod Column

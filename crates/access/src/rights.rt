@@ -7,7 +7,7 @@ ghost use Rattle.model.specs.Access as model;
 ghost use Rattle.model.specs.Lists.{at};
 ghost use Rattle.model.specs.Single.{isFuseByte};
 ghost use Rattle.access.specs.Column.{columnOf, columnAllows};
-ghost use Rattle.access.specs.State.{activeOf, volatileOf};
+ghost use Rattle.access.specs.VolatileState.{activeOf, volatileOf};
 use crate::register;
 use crate::volatile::Active;
 use crate::volatile::PwSet;

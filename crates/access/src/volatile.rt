@@ -2,7 +2,7 @@
 ghost use mathlib.Core.Path.{_≡_};
 ghost use Rattle.model.specs.Volatile.{powerUp, isActive, isBegun, isGranted};
 ghost use Rattle.model.specs.Volatile as model;
-ghost use Rattle.access.specs.State.{activeOf, authenticationOf, volatileOf};
+ghost use Rattle.access.specs.VolatileState.{activeOf, authenticationOf, volatileOf};
 
 // The number of a zone and that of a password set, each from 0 to 7: two types, so that neither passes for the other.
 pub struct Zone(pub u8);

@@ -1,6 +1,6 @@
 -- The state of the code as that of the model.
-use Rattle.model.specs.Busy as model
-use Rattle.access.specs.State.{volatileOf}
+use Rattle.model.specs.State as model
+use Rattle.access.specs.VolatileState.{volatileOf}
 use Rattle.staging.specs.Fuel.{tearOf}
 use Rattle.busy.specs.declared.State.{State}
 

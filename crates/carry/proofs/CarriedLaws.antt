@@ -10,10 +10,10 @@ use lib.ListN.{length, set}
 use lib.Seq.{set-split}
 use Rattle.model.specs.Instruction.{Instruction, wait, poll, arm}
 use Rattle.model.specs.At88sc1608.{at88sc1608}
-use Rattle.model.specs.Staging.{tearAfter}
-use Rattle.model.specs.Busy.{State, timed, arming}
-use Rattle.model.specs.Busy as any
+use Rattle.model.specs.State.{tearAfter, State, timed, arming}
+use Rattle.model.specs.Act as any
 use Rattle.model.specs.Single.{perform}
+use Rattle.laws.specs.ListLaws.{no-elements}
 use Rattle.laws.specs.BusyLaws.{fullAnswer, full-answer}
 use Rattle.issue.specs.Issued.{Carried}
 use Rattle.carry.specs.Carried.{Performed}
@@ -41,9 +41,5 @@ module _ (c : List ℕ) (s : State) (space : List ℕ) where
         card = w .card;
         state = w .state;
         handed = w .handed;
-        answer = sym (rw e (ap (λ (x : List ℕ). x ++ space) (none (perform c s i .report .answer) (full-answer at88sc1608 c s i ∙ e))));
+        answer = sym (rw e (ap (λ (x : List ℕ). x ++ space) (no-elements (perform c s i .report .answer) (full-answer at88sc1608 c s i ∙ e))));
       }
-    where
-      none : (x : List ℕ) → length x ≡ 0 → x ≡ []
-      none [] q = refl
-      none (y ∷ ys) q = absurd (let z : ⊥ = omega arith in z)

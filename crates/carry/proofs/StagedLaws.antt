@@ -13,11 +13,12 @@ use Rattle.model.specs.Lists.{at, tab}
 use Rattle.model.specs.Cells.{Cell, writeCells}
 use Rattle.model.specs.Instruction.{Instruction, powerCycle, writeStaged}
 use Rattle.model.specs.At88sc1608.{at88sc1608}
-use Rattle.model.specs.Staging.{readyFlag, Tear, untorn, isReady, stagedZone, stagedAddress, stagedValues, mayStage, finalValues}
-use Rattle.model.specs.Staging.{finishCells, stageCells, pendingCells, tearsIn}
+use Rattle.model.specs.Staging.{readyFlag, isReady, stagedZone, stagedAddress, stagedValues, mayStage, finalValues, finishCells, stageCells, pendingCells}
+use Rattle.model.specs.Staging.{tearsIn}
+use Rattle.model.specs.State.{Tear, untorn, State, makeState, timed, poweredUp, powerOn, powerLost, writeTime}
 use Rattle.model.specs.Call.{Acted}
-use Rattle.model.specs.Busy.{State, makeState, timed, arming, poweredUp, powerOn, powerLost, writeTime, laid, cycled, staged}
-use Rattle.model.specs.Busy as any
+use Rattle.model.specs.Act.{laid, cycled, staged}
+use Rattle.model.specs.Act as any
 use Rattle.model.specs.Single.{stagingFits, perform}
 use Rattle.laws.specs.ListLaws.{length-tab, tab-cong, tab-part}
 use Rattle.laws.specs.NumberLaws.{sets-front}
@@ -42,8 +43,11 @@ module _ (c : List ℕ) (tear : Tear) (t : State) (ws : List Cell) (few : length
   out : eqb left 0 ≡ tearsIn tear (length ws)
   out = ap (λ (n : ℕ). eqb n 0) (lasts ∙ ap (λ (n : ℕ). n - length ws) fuels) ∙ fuel-out tear (length ws) few
 
-  laid-state : (b : Bool) → eqb left 0 ≡ b → laid at88sc1608 c tear t ws .report .state ≡ cond b powerLost t
-  laid-state b e = ap (λ (x : Bool). cond x powerLost t) (sym out ∙ e)
+  -- an act that writes these cells: without fuel the power is lost
+  pub act-laid : (s : State) (i : Instruction) → perform c s i ≡ laid at88sc1608 c tear t ws → (lost : Bool) → eqb left 0 ≡ lost
+      → (s′ : State) (tries : ℕ) → s′ ≡ cond lost powerLost t → tries ≡ 0 → Performed c s i c′ s′ tries
+  act-laid s i e lost q s′ tries p z =
+      performed c s i _ e c′ s′ tries laid-card (p ∙ ap (λ (x : Bool). cond x powerLost t) (sym q ∙ out)) z
 
 -- ---- a power cycle
 
@@ -97,17 +101,9 @@ module _ (c : List ℕ) (s : State) where
         left-is : left ≡ f - length ws
         left-is = lasts ∙ ap (λ (m : ℕ). f - m) (ap (λ (vs : List ℕ). length vs + 1) copied-are ∙ sym count)
 
-        pub cycle-torn : left ≡ 0 → (s′ t : State) (tries : ℕ) → s′ ≡ t → tries ≡ 0 → t ≡ powerLost → Performed c s powerCycle c′ s′ tries
-        cycle-torn e s′ t tries p z q =
-            performed c s powerCycle _ (cycle-is true is-ready) c′ s′ tries
-            (laid-card c (s .tear) powerOn ws few f junk left fuels junks left-is c′ cells-are)
-            (p ∙ q ∙ sym (laid-state c (s .tear) powerOn ws few f junk left fuels junks left-is c′ cells-are true (eq-eqb _ _ e))) z
-
-        pub cycle-done : (left ≡ 0 → ⊥) → (s′ t : State) (tries : ℕ) → s′ ≡ t → tries ≡ 0 → t ≡ powerOn → Performed c s powerCycle c′ s′ tries
-        cycle-done e s′ t tries p z q =
-            performed c s powerCycle _ (cycle-is true is-ready) c′ s′ tries
-            (laid-card c (s .tear) powerOn ws few f junk left fuels junks left-is c′ cells-are)
-            (p ∙ q ∙ sym (laid-state c (s .tear) powerOn ws few f junk left fuels junks left-is c′ cells-are false (ne-eqb _ _ e))) z
+        pub cycle-laid : (lost : Bool) → eqb left 0 ≡ lost → (s′ : State) (tries : ℕ) → s′ ≡ cond lost powerLost powerOn → tries ≡ 0
+            → Performed c s powerCycle c′ s′ tries
+        cycle-laid = act-laid c (s .tear) powerOn ws few f junk left fuels junks left-is c′ cells-are s powerCycle (cycle-is true is-ready)
 
 -- ---- a staged write
 
@@ -157,16 +153,6 @@ module _ (c : List ℕ) (s : State) (a : ℕ) (xs : List ℕ) where
       is-allowed : mayStage at88sc1608 c (s .volatile) a ≡ true
       is-allowed = sym right ∙ not-false may allowed
 
-      pub stage-torn : left ≡ 0 → (s′ t : State) (tries : ℕ) → s′ ≡ t → tries ≡ 0 → t ≡ powerLost → Performed c s (writeStaged a xs) c′ s′ tries
-      stage-torn e s′ t tries p z q =
-          performed c s (writeStaged a xs) _ (stage-is true is-allowed) c′ s′ tries
-          (laid-card c (s .tear) uncut us fewer f junk left fuels junks left-are c′ written-are)
-          (p ∙ q ∙ sym (laid-state c (s .tear) uncut us fewer f junk left fuels junks left-are c′ written-are true (eq-eqb _ _ e))) z
-
-      pub stage-done : (left ≡ 0 → ⊥) → (s′ t u : State) (tries : ℕ) → s′ ≡ t → tries ≡ 0 → u ≡ timed s (s .volatile) writeTime → t ≡ arming u untorn
+      pub stage-laid : (lost : Bool) → eqb left 0 ≡ lost → (s′ : State) (tries : ℕ) → s′ ≡ cond lost powerLost uncut → tries ≡ 0
           → Performed c s (writeStaged a xs) c′ s′ tries
-      stage-done e s′ t u tries p z q r =
-          performed c s (writeStaged a xs) _ (stage-is true is-allowed) c′ s′ tries
-          (laid-card c (s .tear) uncut us fewer f junk left fuels junks left-are c′ written-are)
-          (p ∙ r ∙ (λ j. arming (q j) untorn) ∙ sym (laid-state c (s .tear) uncut us fewer f junk left fuels junks left-are c′ written-are false
-          (ne-eqb _ _ e))) z
+      stage-laid = act-laid c (s .tear) uncut us fewer f junk left fuels junks left-are c′ written-are s (writeStaged a xs) (stage-is true is-allowed)

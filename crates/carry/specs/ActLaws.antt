@@ -8,7 +8,8 @@ use lib.Dec.{ltb}
 use lib.ListN.{length, drop}
 use Rattle.model.specs.Instruction.{Instruction, kindOf}
 use Rattle.model.specs.At88sc1608.{at88sc1608}
-use Rattle.model.specs.Busy.{State, actsAlways, actsBusy, isHalted, ignores}
+use Rattle.model.specs.State.{State}
+use Rattle.model.specs.Busy.{actsAlways, actsBusy, isHalted, ignores}
 use Rattle.model.specs.Record.{made}
 use Rattle.laws.specs.BoolLaws.{and-left}
 use Rattle.laws.specs.BusyLaws.{fullAnswer, act-ignored, act-performed, full-answer}

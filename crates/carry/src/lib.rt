@@ -10,11 +10,11 @@ use busy::arming;
 use busy::busy_byte;
 use busy::time_left;
 use busy::timed;
-use issue::done::Done;
-use issue::done::quiet;
 use issue::issue;
 use record::decoder::Head;
 use staging::tear::Tear;
+use timed_security::done::Done;
+use timed_security::done::quiet;
 
 pub mod staged;
 

@@ -16,8 +16,6 @@ use busy::power_lost;
 use busy::power_on;
 use busy::powered_up;
 use busy::timed;
-use issue::done::Done;
-use issue::done::quiet;
 use memory::zone::final_values;
 use memory::zone::may_stage;
 use sizes::FLAG;
@@ -30,6 +28,8 @@ use staging::stage::stage;
 use staging::tear::Tear;
 use staging::tear::fuel;
 use staging::tear::junk;
+use timed_security::done::Done;
+use timed_security::done::quiet;
 
 // helper: power cycle.
 pub fn power_cycle(card: &mut [u8], state: State) -> Done

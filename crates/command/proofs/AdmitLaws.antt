@@ -8,7 +8,8 @@ use lib.Dec.{ltb}
 use lib.ListN.{length}
 use Rattle.model.specs.Sizes.{cardSize, fuseAt}
 use Rattle.model.specs.Lists.{at}
-use Rattle.model.specs.Busy.{State, isBusy, actsAlways, actsBusy, isHalted}
+use Rattle.model.specs.State.{State, isBusy}
+use Rattle.model.specs.Busy.{actsAlways, actsBusy, isHalted}
 use Rattle.model.specs.Call.{refused, whole}
 use Rattle.model.specs.Call as calls
 use Rattle.model.specs.At88sc1608.{at88sc1608}

@@ -6,7 +6,8 @@ use mathlib.Core.Path.{_≡_, sym, _∙_}
 use lib.Dec.{ltb}
 use lib.ListN.{length, drop}
 use Rattle.model.specs.Sizes.{cardSize}
-use Rattle.model.specs.Busy.{State, actsAlways, actsBusy, isHalted}
+use Rattle.model.specs.State.{State}
+use Rattle.model.specs.Busy.{actsAlways, actsBusy, isHalted}
 use Rattle.model.specs.Instruction.{Instruction}
 use Rattle.model.specs.Call.{refused, whole, calling, refusing}
 use Rattle.model.specs.Call as calls

@@ -10,9 +10,8 @@ use lib.ListN.{length}
 use Rattle.model.specs.Call.{Call, Powered, powered, step}
 use Rattle.model.specs.Call as calls
 use Rattle.model.specs.Lists.{at}
-use Rattle.model.specs.Staging.{Tear}
-use Rattle.model.specs.Busy.{poweredUp}
-use Rattle.model.specs.Busy as model
+use Rattle.model.specs.State.{Tear, poweredUp}
+use Rattle.model.specs.State as model
 use Rattle.model.specs.Access.{rpe, ate, passwordSet}
 use Rattle.model.specs.At88sc1608.{at88sc1608}
 use Rattle.model.specs.Device.{Counter, counterPlace}

@@ -4,9 +4,8 @@ use mathlib.Core.Bool.{cond}
 use mathlib.Core.Path.{_≡_, refl, sym, ap, _∙_}
 use lib.Dec.{eqb}
 use Rattle.model.specs.Volatile as model
-use Rattle.model.specs.Staging as staging
-use Rattle.model.specs.Busy as busy
-use Rattle.access.specs.State.{activeOf, authenticationOf, volatileOf}
+use Rattle.model.specs.State as state
+use Rattle.access.specs.VolatileState.{activeOf, authenticationOf, volatileOf}
 use Rattle.access.specs.declared.volatile.Active.{Active}
 use Rattle.access.specs.declared.volatile.Active.the-variants as active
 use Rattle.access.specs.declared.volatile.Authentication.{Authentication}
@@ -33,9 +32,9 @@ authenticationFrom model.idle = authentication.Idle
 authenticationFrom model.begun = authentication.Begun
 authenticationFrom model.granted = authentication.Granted
 
-abbrev pub tearFrom : staging.Tear → Tear
-tearFrom staging.untorn = tear.Untorn
-tearFrom (staging.tearAfter k junk) = tear.After k junk
+abbrev pub tearFrom : state.Tear → Tear
+tearFrom state.untorn = tear.Untorn
+tearFrom (state.tearAfter k junk) = tear.After k junk
 
 abbrev pub outcomeFrom : ℕ → Outcome
 outcomeFrom n =
@@ -106,5 +105,5 @@ pub state-injective : (s u : State) → stateOf s ≡ stateOf u → s ≡ u
 state-injective s u e =
     let v = volatile-injective (s .volatile) (u .volatile) (λ i. e i .volatile) in
     let t : s .power .tear ≡ u .power .tear =
-    sym (tear-back (s .power .tear)) ∙ ap (λ (x : busy.State). tearFrom (x .tear)) e ∙ tear-back (u .power .tear) in
+    sym (tear-back (s .power .tear)) ∙ ap (λ (x : state.State). tearFrom (x .tear)) e ∙ tear-back (u .power .tear) in
     λ i. record { volatile = v i; busy = e i .busy; power = record { off = e i .off; tear = t i } }

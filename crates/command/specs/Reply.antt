@@ -2,7 +2,7 @@
 use Prim.Native.Nat.{ℕ}
 use mathlib.Core.List.{List}
 use Rattle.model.specs.Call as call
-use Rattle.model.specs.Busy.{State}
+use Rattle.model.specs.State.{State}
 use Rattle.busy.specs.TimedState.{stateOf}
 use Rattle.record.specs.RefusalNumber.{outcomeNumber}
 use Rattle.command.specs.declared.Reply.{Reply}

@@ -7,11 +7,10 @@ use Rattle.model.specs.Call.{Call}
 use Rattle.model.specs.Call as calls
 use Rattle.laws.specs.Tables.{agree-at}
 use Rattle.model.specs.Volatile as model
-use Rattle.model.specs.Staging as staging
-use Rattle.model.specs.Busy as busy
+use Rattle.model.specs.State as state
 use Rattle.model.specs.Single.{command}
 use Rattle.laws.specs.SingleLaws.{refusal-small}
-use Rattle.access.specs.State.{activeOf, authenticationOf, volatileOf}
+use Rattle.access.specs.VolatileState.{activeOf, authenticationOf, volatileOf}
 use Rattle.access.specs.declared.volatile.Volatile.{Volatile}
 use Rattle.staging.specs.Fuel.{tearOf}
 use Rattle.busy.specs.TimedState.{stateOf}
@@ -26,10 +25,10 @@ use Rattle.command.specs.CodeSecrecy.{Given, Run, none, one-more}
 abbrev volatileFrom : model.Volatile → Volatile
 volatileFrom v = record { zone = record { 0 = v .zone }; active = activeFrom (v .active); authentication = authenticationFrom (v .authentication) }
 
-abbrev stateFrom : busy.State → State
+abbrev stateFrom : state.State → State
 stateFrom s = record { volatile = volatileFrom (s .volatile); busy = s .busy; power = record { off = s .off; tear = tearFrom (s .tear) } }
 
-abbrev givenFrom : calls.Reply busy.State → Given
+abbrev givenFrom : calls.Reply state.State → Given
 givenFrom r =
     record {
       reply = record { outcome = outcomeFrom (r .refusal); kind = r .kind; size = r .size; state = stateFrom (r .state); tries = r .tries };
@@ -45,20 +44,20 @@ authentication-there model.idle = refl
 authentication-there model.begun = refl
 authentication-there model.granted = refl
 
-tear-there : (t : staging.Tear) → tearOf (tearFrom t) ≡ t
-tear-there staging.untorn = refl
-tear-there (staging.tearAfter k junk) = refl
+tear-there : (t : state.Tear) → tearOf (tearFrom t) ≡ t
+tear-there state.untorn = refl
+tear-there (state.tearAfter k junk) = refl
 
 volatile-there : (v : model.Volatile) → volatileOf (volatileFrom v) ≡ v
 volatile-there v = λ i. record { zone = v .zone; active = active-there (v .active) i; authentication = authentication-there (v .authentication) i }
 
-state-there : (s : busy.State) → stateOf (stateFrom s) ≡ s
+state-there : (s : state.State) → stateOf (stateFrom s) ≡ s
 state-there s = λ i. record { volatile = volatile-there (s .volatile) i; busy = s .busy; off = s .off; tear = tear-there (s .tear) i }
 
 outcome-there : (n : ℕ) → n ≤ 16 → outcomeNumber (outcomeFrom n) ≡ n
 outcome-there n h = agree-at (λ m. outcomeNumber (outcomeFrom m)) (λ m. m) 17 refl n (omega arith)
 
-call-given : (c : List ℕ) (s : busy.State) (x : Call)
+call-given : (c : List ℕ) (s : state.State) (x : Call)
     → calledOf (givenFrom (command c s x .reply) .reply) (command c s x .card) (givenFrom (command c s x .reply) .space) ≡ command c s x
 call-given c s x =
     let o = outcome-there (command c s x .reply .refusal) (let l = refusal-small c s x in omega arith) in

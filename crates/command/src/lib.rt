@@ -9,9 +9,9 @@ use busy::State;
 use busy::is_halted;
 use busy::is_ignored;
 use carry::carry_out;
+use kinds::answer_length;
 use record::decoder::Decoded;
 use record::decoder::head_of;
-use record::kind::answer_length;
 use record::refusal::Outcome;
 
 pub mod admit;

@@ -9,7 +9,7 @@ use Rattle.model.specs.Sizes.{cardSize, fuseAt}
 use Rattle.model.specs.Lists.{at, tab, stores}
 use Rattle.laws.specs.ListLaws.{tab-cong}
 use Rattle.model.specs.Volatile.{Volatile}
-use Rattle.model.specs.Command.{readConfiguration, writeConfiguration}
+use Rattle.model.specs.Instruction.{readConfiguration, writeConfiguration}
 use Rattle.laws.specs.AccessLaws.{fuse-rule, configuration-written, configuration-merged}
 use Rattle.laws.specs.ReadLaws.{configuration-answer}
 use Rattle.model.specs.At88sc1608.{at88sc1608, configurationCell, configurationAt}

@@ -8,7 +8,7 @@ use Rattle.model.specs.Lists.{at, tab}
 use Rattle.laws.specs.ListLaws.{tab-cong}
 use Rattle.model.specs.Volatile.{Volatile, none, idle, activating, authenticating}
 use Rattle.model.specs.Bits.{reversed}
-use Rattle.model.specs.Command.{reset}
+use Rattle.model.specs.Instruction.{reset}
 use Rattle.model.specs.Apply as any
 use Rattle.model.specs.Single.{apply}
 

@@ -5,7 +5,7 @@ ghost use Prim.Native.Nat.{_+_, _%_, _<_};
 ghost use lib.ListN.{length};
 ghost use Rattle.model.specs.Lists.{stores};
 ghost use Rattle.access.specs.Column.{columnAllows};
-ghost use Rattle.access.specs.State.{activeOf};
+ghost use Rattle.access.specs.VolatileState.{activeOf};
 ghost use Rattle.configuration.specs.ConfigurationPage.{allowedOf};
 use access::rights::configuration_allows;
 use access::volatile::Active;

@@ -13,12 +13,13 @@ use Rattle.model.specs.Call as calls
 use Rattle.model.specs.Refusal.{cardLength, fuseByte, stagingBytes, stateOutOfRange}
 use Rattle.model.specs.Session.{Ran, run}
 use Rattle.model.specs.Single.{isFuseByte, stagingFits, checkOf, check, command}
-use Rattle.model.specs.Busy.{State}
+use Rattle.model.specs.State.{State}
 use Rattle.model.specs.Writer.{Parts, writeSession}
-use Rattle.exports.specs.Exports.{result, runCall, toldRun, exportedRun, commandResult, commandCall, toldCommand, exportedCommand, exportedWriting}
+use Rattle.exports.specs.Exports.{runCall, toldRun, exportedRun, commandCall, toldCommand, exportedCommand, exportedWriting}
+use Rattle.results.specs.Results.{result, commandResult}
 use Rattle.exports.specs.Lengths.{response-small, run-small, writing-small}
-use Rattle.exports.specs.StateBytes.{isState, stateOf, stateAfter}
-use Rattle.exports.specs.StateLaws.{state-long, state-range}
+use Rattle.state_bytes.specs.StateBytes.{isState, stateOf, stateAfter}
+use Rattle.state_bytes.specs.StateLaws.{state-long, state-range}
 
 -- ---- a session
 

@@ -1,2 +1,1 @@
-pub mod StateByteLaws
 pub mod ExportLaws

@@ -13,7 +13,7 @@ use Rattle.model.specs.Call.{Call, Decoded, refused, whole, calling, refusing}
 use Rattle.model.specs.Call as calls
 use Rattle.laws.specs.CallLaws.{admitted}
 use Rattle.model.specs.Instruction.{Instruction}
-use Rattle.model.specs.Busy.{State}
+use Rattle.model.specs.State.{State}
 use Rattle.model.specs.At88sc1608.{at88sc1608}
 use Rattle.model.specs.Record.{decode}
 use Rattle.laws.specs.RecordLaws.{decode-ranged}
@@ -23,8 +23,8 @@ use Rattle.laws.specs.SingleLaws.{refusal-small}
 use Rattle.model.specs.Single.{isFuseByte, stagingFits, stateInRange, checkOf, check, answeredKind, act, command}
 use Rattle.exports.specs.Exports.{exportedCommand}
 use Rattle.exports.specs.Lengths.{response-small, tries-small}
-use Rattle.exports.specs.StateBytes.{isState, stateOf, stateAfter}
-use Rattle.exports.specs.StateLaws.{state-read, state-range}
+use Rattle.state_bytes.specs.StateBytes.{isState, stateOf, stateAfter}
+use Rattle.state_bytes.specs.StateLaws.{state-read, state-range}
 
 -- 12 at its place: where none of 11, 5 and 16 applies, and whatever the record and the response space are
 pub unread-refused : (c b : List ℕ) (x : Call) → length c ≡ cardSize → isFuseByte (at c fuseAt) ≡ true → stagingFits c ≡ true → isState b ≡ false

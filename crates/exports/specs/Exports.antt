@@ -1,17 +1,13 @@
--- What the exported functions give back and leave, in the model's terms.
-use Prim.Native.Nat.{ℕ, _+_, _*_, _^_}
+-- What the exported functions give back and leave, in the model's terms. What `at88sc1608_answer` gives back is `Results.exportedAnswer`.
+use Prim.Native.Nat.{ℕ}
 use mathlib.Core.List.{List}
 use Rattle.model.specs.Call.{Called, calling}
-use Rattle.model.specs.Log.{Found, missing, located}
 use Rattle.model.specs.Session.{Ran, run}
 use Rattle.model.specs.Single.{command}
-use Rattle.model.specs.Busy.{State}
+use Rattle.model.specs.State.{State}
 use Rattle.model.specs.Writer.{Parts, writeSession}
-use Rattle.exports.specs.StateBytes.{stateOf, stateAfter}
-
--- the refusal's number, or 0, and 2^8 times a length
-abbrev pub result : ℕ → ℕ → ℕ
-result refusal n = refusal + 2 ^ 8 * n
+use Rattle.state_bytes.specs.StateBytes.{stateOf, stateAfter}
+use Rattle.results.specs.Results.{result, commandResult}
 
 -- ---- at88sc1608_run
 
@@ -33,10 +29,6 @@ exportedRun session log = toldRun (run session log)
 
 -- ---- at88sc1608_command
 
--- the refusal's number, or 0, 2^8 times the response's length, 2^24 times the tries left and 2^32 times the kind that is answered
-abbrev pub commandResult : ℕ → ℕ → ℕ → ℕ → ℕ
-commandResult refusal n tries kind = refusal + 2 ^ 8 * n + 2 ^ 24 * tries + 2 ^ 32 * kind
-
 -- the result, and the card, the state's bytes and the response space at exit
 pub record CommandCall : Type 0 where
   pub result : ℕ
@@ -56,13 +48,6 @@ toldCommand state x =
 -- of a card, a state's bytes, a record and a response space
 abbrev pub exportedCommand : List ℕ → List ℕ → List ℕ → List ℕ → CommandCall
 exportedCommand card state sent response = toldCommand state (command card (stateOf state) (calling sent response))
-
--- ---- at88sc1608_answer
-
--- the refusal's number, or 2^8 times the answer's length and 2^40 times where it begins in the log
-abbrev pub exportedAnswer : Found → ℕ
-exportedAnswer (missing n) = n
-exportedAnswer (located from n) = 2 ^ 8 * n + 2 ^ 40 * from
 
 -- ---- at88sc1608_write_session
 

@@ -14,15 +14,15 @@ use Rattle.model.specs.At88sc1608.{at88sc1608, counterAt, attemptsAt}
 use Rattle.model.specs.Call.{Decoded, refused, whole, Call}
 use Rattle.model.specs.Call as calls
 use Rattle.laws.specs.CallLaws.{admitted}
-use Rattle.model.specs.Command.{Command, reset, select, readZone, writeZone, readConfiguration, writeConfiguration, readFuses, writeFuses}
-use Rattle.model.specs.Command.{verifyPassword, beginAuthentication, verifyAuthentication}
-use Rattle.model.specs.Instruction.{Instruction, powerCycle, issue, wait, poll, writeStaged, arm}
-use Rattle.model.specs.Busy.{State, ignores}
+use Rattle.model.specs.Instruction.{Command, reset, select, readZone, writeZone, readConfiguration, writeConfiguration, readFuses, writeFuses, verifyPassword}
+use Rattle.model.specs.Instruction.{beginAuthentication, verifyAuthentication, Instruction, powerCycle, issue, wait, poll, writeStaged, arm}
+use Rattle.model.specs.State.{State}
+use Rattle.model.specs.Busy.{ignores}
 use Rattle.laws.specs.BusyLaws.{given-answer, given-most, triesUsed}
 use Rattle.laws.specs.Effects.{triesAfter}
 use Rattle.laws.specs.Sane.{good-check}
-use Rattle.model.specs.Log.{Ending, zoned, Entry, LaidOut, lengthAt, nextEntry, entryOk, entriesOk, entryPlace, countOf, offsetOf}
-use Rattle.model.specs.Log.{trailerOk, validAs, placeOf, find, located}
+use Rattle.model.specs.Log.{Ending, zoned, Entry, LaidOut}
+use Rattle.model.specs.LogCheck.{lengthAt, nextEntry, entryOk, entriesOk, entryPlace, countOf, offsetOf, trailerOk, validAs, placeOf, find, located}
 use Rattle.model.specs.Record.{decode}
 use Rattle.model.specs.Session.{run}
 use Rattle.model.specs.Single.{check, answeredKind, act, admit, command}

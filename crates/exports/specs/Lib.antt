@@ -1,5 +1,4 @@
-pub mod StateBytes
 pub mod Exports
-pub mod StateLaws
 pub mod ExportedCommandLaws
+pub mod RefusedExports
 pub mod Lengths

@@ -1,22 +1,20 @@
 // The C interface: a session, a single command, an answer of a log, a session written. Slices pass as a pointer and a length.
 ghost use mathlib.Core.Path.{_≡_};
-ghost use Rattle.model.specs.Log as model;
+ghost use Rattle.model.specs.LogCheck as model;
 ghost use Rattle.model.specs.Writer.{parts};
-ghost use Rattle.exports.specs.Exports.{runCall, exportedRun, commandCall, exportedCommand, exportedAnswer, exportedWriting};
-use crate::result::answer_number;
-use crate::result::command_number;
-use crate::result::result_number;
-use crate::state::read_state;
-use crate::state::write_state;
+ghost use Rattle.exports.specs.Exports.{runCall, exportedRun, commandCall, exportedCommand, exportedWriting};
+ghost use Rattle.results.specs.Results.{exportedAnswer};
 use command::command;
 use log::find::Found;
 use log::find::find;
 use record::refusal::number as refusal_number;
+use results::answer_number;
+use results::command_number;
+use results::result_number;
 use session::run;
+use state_bytes::read_state;
+use state_bytes::write_state;
 use writer::write_session;
-
-pub mod result;
-pub mod state;
 
 // A session run: the refusal's number, or 0, and 2^8 times the log's length.
 #[no_mangle]

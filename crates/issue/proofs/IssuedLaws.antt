@@ -1,36 +1,19 @@
--- What a record leaves that is not ignored, from what the parts of the code leave: a command, from what it reported and whether it made
--- the card busy; a wait; a poll; an arming; what answers nothing.
+-- What a record leaves that is a command and is not ignored, from what the command leaves with its time and what stands in the response space.
 use Prim.Native.Nat.{ℕ, suc, _≤_}
-use mathlib.Core.Bool.{Bool, cond, not, _&&_}
-use mathlib.Core.List.{List, [], _++_}
-use mathlib.Core.Path.{_≡_, ap, _∙_}
+use mathlib.Core.List.{List, _++_}
+use mathlib.Core.Path.{_≡_, sym, _∙_}
 use native.Mathlib.Nat.{le-antisymm}
 use native.Mathlib.Omega.{arith}
-use lib.Dec.{eqb}
 use lib.ListN.{drop}
-use Rattle.model.specs.Sizes.{fuseAt}
-use Rattle.model.specs.Lists.{at}
-use Rattle.model.specs.Volatile.{Volatile, isActive}
-use Rattle.model.specs.Command.{Command, writeFuses}
-use Rattle.model.specs.Instruction.{issue}
-use Rattle.model.specs.At88sc1608.{at88sc1608, counterAt}
-use Rattle.model.specs.Busy.{State, timed, writeTime, makesBusy}
-use Rattle.model.specs.Busy as any
-use Rattle.model.specs.Single.{apply, perform}
-use Rattle.laws.specs.Effects.{answerLength}
-use Rattle.issue.specs.Issued.{Carried, Issued}
-
--- what a command leaves, from the state and the tries that were handed on, and whether it made the card busy
-module _ (c : List ℕ) (s : State) (k : Command) (c′ : List ℕ) (v′ : Volatile) (s′ : State) (n tries : ℕ) (b : Bool)
-    (times : s′ ≡ timed s v′ (cond b writeTime 0)) (hands : tries ≡ n) (busy : b ≡ makesBusy at88sc1608 c (s .volatile) k) where
-  pub without-tries : n ≡ apply c (s .volatile) k .report .tries → c′ ≡ apply c (s .volatile) k .card → v′ ≡ apply c (s .volatile) k .report .state
-      → Issued c s k c′ s′ tries
-  without-tries used card state =
-      record { card = card; state = times ∙ (λ i. timed s (state i) (cond (busy i) writeTime 0)); handed = hands ∙ used }
-
-  pub with-tries : record { state = v′; answer = []; tries = n } ≡ apply c (s .volatile) k .report → c′ ≡ apply c (s .volatile) k .card
-      → Issued c s k c′ s′ tries
-  with-tries q card = without-tries (λ i. q i .tries) card (λ i. q i .state)
+use Rattle.model.specs.Instruction.{Command, issue}
+use Rattle.model.specs.At88sc1608.{at88sc1608}
+use Rattle.model.specs.State.{State}
+use Rattle.model.specs.Act as any
+use Rattle.model.specs.Single.{apply}
+use Rattle.laws.specs.ListLaws.{no-elements}
+use Rattle.laws.specs.Effects.{answerLength, answer-length}
+use Rattle.timed_security.specs.IssuedCommand.{Issued}
+use Rattle.issue.specs.Issued.{Carried}
 
 module _ (c : List ℕ) (s : State) (space : List ℕ) where
   pub answered : (k : Command) (c′ : List ℕ) (s′ : State) (tries : ℕ) (space′ : List ℕ) → Issued c s k c′ s′ tries
@@ -38,14 +21,11 @@ module _ (c : List ℕ) (s : State) (space : List ℕ) where
   unfolding any.perform
   answered k c′ s′ tries space′ w e = record { card = w .card; state = w .state; handed = w .handed; answer = e }
 
--- a counter that is read where it lies
-pub counter-left : (c : List ℕ) (k i : ℕ) → i ≡ counterAt k → not (eqb (at c i) 0) ≡ not (eqb (at c (counterAt k)) 0)
-counter-left c k i e = ap (λ (j : ℕ). not (eqb (at c j) 0)) e
-
--- a fuse that is left for whom it is allowed
-pub fuse-left : (c : List ℕ) (v : Volatile) (t u : Bool) → t ≡ isActive (v .active) 7 → u ≡ (t && not (eqb (at c fuseAt) 0))
-    → u ≡ makesBusy at88sc1608 c v writeFuses
-fuse-left c v t u p q = q ∙ ap (λ (b : Bool). b && not (eqb (at c fuseAt) 0)) p
+  pub unanswered : (k : Command) (c′ : List ℕ) (s′ : State) (tries : ℕ) → Issued c s k c′ s′ tries → answerLength at88sc1608 k ≡ 0
+      → Carried c s (issue k) space c′ s′ tries space
+  unanswered k c′ s′ tries w z =
+      let e = no-elements (apply c (s .volatile) k .report .answer) (answer-length at88sc1608 c (s .volatile) k ∙ z) in
+      answered k c′ s′ tries space w (sym (λ i. e i ++ drop (z i) space))
 
 -- the last of the commands: none of the others
 next : (n k : ℕ) → n ≤ k → (k ≡ n → ⊥) → suc n ≤ k

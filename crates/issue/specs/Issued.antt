@@ -1,15 +1,14 @@
 -- What a record that is not ignored asks of its call, and what it leaves.
 use Prim.Native.Nat.{ℕ, _≤_, _<_}
-use mathlib.Core.Bool.{true, cond}
+use mathlib.Core.Bool.{true}
 use mathlib.Core.List.{List, _++_}
 use mathlib.Core.Path.{_≡_}
 use lib.ListN.{length, drop}
 use Rattle.model.specs.Sizes.{cardSize}
-use Rattle.model.specs.Command.{Command}
-use Rattle.model.specs.Busy.{State, timed, writeTime, makesBusy}
 use Rattle.model.specs.Instruction.{Instruction}
+use Rattle.model.specs.State.{State}
 use Rattle.model.specs.At88sc1608.{at88sc1608}
-use Rattle.model.specs.Single.{stagingFits, apply, perform}
+use Rattle.model.specs.Single.{stagingFits, perform}
 use Rattle.laws.specs.BusyLaws.{fullAnswer}
 use Rattle.laws.specs.RecordLaws.{Ranged}
 
@@ -30,9 +29,3 @@ pub record Carried (c : List ℕ) (s : State) (i : Instruction) (space c′ : Li
   pub state : s′ ≡ perform c s i .report .state
   pub handed : tries ≡ perform c s i .report .tries
   pub answer : space′ ≡ perform c s i .report .answer ++ drop (fullAnswer at88sc1608 i) space
-
--- the card, the state and the tries handed out after a command, busy or not
-pub record Issued (c : List ℕ) (s : State) (k : Command) (c′ : List ℕ) (s′ : State) (tries : ℕ) : Type 0 where
-  pub card : c′ ≡ apply c (s .volatile) k .card
-  pub state : s′ ≡ timed s (apply c (s .volatile) k .report .state) (cond (makesBusy at88sc1608 c (s .volatile) k) writeTime 0)
-  pub handed : tries ≡ apply c (s .volatile) k .report .tries

@@ -4,36 +4,27 @@ ghost use mathlib.Core.List.{[], _∷_, _++_};
 ghost use Prim.Native.Nat.{_≤_};
 ghost use lib.ListN.{length, drop};
 ghost use Rattle.model.specs.Sizes.{cardSize, fuseAt};
-ghost use Rattle.model.specs.Command.{writeFuses, verifyPassword, beginAuthentication, verifyAuthentication};
 ghost use Rattle.model.specs.Lists.{at};
 ghost use Rattle.busy.specs.TimedState.{stateOf};
 ghost use Rattle.record.specs.DecodedRecord.{askedBy};
-ghost use Rattle.issue.specs.Issued.{Ready, Carried, Issued};
-use crate::done::Done;
-use crate::done::left;
-use crate::done::settled;
+ghost use Rattle.issue.specs.Issued.{Ready, Carried};
 use access::volatile::Zone;
-use access::volatile::is_active;
-use access::volatile::is_begun;
 use access::volatile::selecting;
 use busy::State;
 use configuration::read_configuration;
 use configuration::reset::answer_to_reset;
 use configuration::write_configuration;
+use kinds::read_count;
 use memory::zone::read_zone;
 use memory::zone::write_zone;
 use record::decoder::Head;
-use record::kind::both;
-use record::kind::read_count;
-use security::authentication::begin_authentication;
-use security::authentication::verify_authentication;
-use security::counter::counter_at;
-use security::fuse::write_fuses;
-use security::password::verify_password;
-use sizes::ATTEMPTS;
 use sizes::FUSES;
-
-pub mod done;
+use timed_security::begin;
+use timed_security::blow_fuse;
+use timed_security::done::Done;
+use timed_security::done::settled;
+use timed_security::judge;
+use timed_security::present;
 
 // Read fuses: the fuse byte alone.
 fn read_fuses(card: &[u8], response: &mut [u8])
@@ -41,59 +32,6 @@ fn read_fuses(card: &[u8], response: &mut [u8])
     ensures { λ _. ⌜ now (response .exit) ≡ (at (now (card .entry)) fuseAt ∷ []) ++ drop 1 (now (response .entry)) ⌝ }
 {
     response[0] = card[FUSES];
-}
-
-// Write fuses: busy where a fuse is left for whom it is allowed.
-fn blow_fuse(card: &mut [u8], state: State) -> Done
-    requires { ⌜ length (now card) ≡ cardSize ⌝ }
-    ensures { λ r. ⌜ Issued (now (card .entry)) (stateOf state) writeFuses (now (card .exit)) (stateOf (r .state)) (r .tries) ⌝ }
-{
-    let volatile = state.volatile;
-    let active = volatile.active;
-    let busy = both(is_active(active, 7), card[FUSES] != 0);
-    write_fuses(card, volatile);
-    settled(state, volatile, busy)
-}
-
-// Verify password: busy where its counter is not used up.
-fn present(card: &mut [u8], state: State, selector: u8, bytes: &[u8]) -> Done
-    requires { ⌜ (length (now card) ≡ cardSize) × (length (now bytes) ≡ 3) ⌝ }
-    ensures { λ r. ⌜ Issued (now (card .entry)) (stateOf state) (verifyPassword selector (now (bytes .entry))) (now (card .exit))
-        (stateOf (r .state)) (r .tries) ⌝ }
-{
-    let volatile = state.volatile;
-    let busy = card[counter_at(selector)] != 0;
-    left(
-        state,
-        verify_password(card, volatile, selector, bytes),
-        busy,
-    )
-}
-
-// Begin authentication: busy where its counter is not used up.
-fn begin(card: &mut [u8], state: State) -> Done
-    requires { ⌜ length (now card) ≡ cardSize ⌝ }
-    ensures { λ r. ⌜ Issued (now (card .entry)) (stateOf state) beginAuthentication (now (card .exit)) (stateOf (r .state)) (r .tries) ⌝ }
-{
-    let volatile = state.volatile;
-    let busy = card[ATTEMPTS] != 0;
-    left(state, begin_authentication(card, volatile), busy)
-}
-
-// Verify authentication: busy where it is begun.
-fn judge(card: &mut [u8], state: State, verdict: bool, bytes: &[u8]) -> Done
-    requires { ⌜ (length (now card) ≡ cardSize) × (length (now bytes) ≡ 8) ⌝ }
-    ensures { λ r. ⌜ Issued (now (card .entry)) (stateOf state) (verifyAuthentication verdict (now (bytes .entry))) (now (card .exit))
-        (stateOf (r .state)) (r .tries) ⌝ }
-{
-    let volatile = state.volatile;
-    let authentication = volatile.authentication;
-    let busy = is_begun(authentication);
-    left(
-        state,
-        verify_authentication(card, volatile, verdict, bytes),
-        busy,
-    )
 }
 
 // helper: what a command does with these first bytes, whose record takes the bytes up to end.

@@ -1,7 +1,8 @@
 -- Laws of access on the AT88SC1608: which definition speaks for a place, and the rule bytes of a card.
 use Prim.Native.Nat.{ℕ, _+_, _-_, _/_, _%_, _≤_, _<_}
+use mathlib.Core.Bool.{true}
 use mathlib.Core.List.{List}
-use mathlib.Core.Path.{_≡_, _∙_}
+use mathlib.Core.Path.{_≡_, refl, _∙_}
 use native.Mathlib.Omega.{arith}
 use lib.Dec.{ltb, eqb}
 use borrow.Author.Tests.{lt-ltb, le-ltb, ne-eqb}
@@ -9,8 +10,9 @@ use Rattle.model.specs.Sizes.{fuseAt}
 use Rattle.model.specs.Lists.{at}
 use Rattle.laws.specs.ListLaws.{at-tab}
 use Rattle.laws.specs.BoolLaws.{choice}
-use Rattle.model.specs.Volatile.{Volatile}
-use Rattle.model.specs.Access.{zoneReadable, zoneWritable, zoneMerge, areaOf, stageOf, configurationAllows}
+use Rattle.laws.specs.Tables.{agree-at}
+use Rattle.model.specs.Volatile.{Volatile, Active}
+use Rattle.model.specs.Access.{zoneReadable, zoneWritable, zoneMerge, free, permissions, areaOf, stageOf, permission, permits, configurationAllows}
 use Rattle.model.specs.At88sc1608.{at88sc1608, registerAt, ruleAt, fuses, registerOf, mayRead, mayWrite, merge, concealed, configurationAt}
 use Rattle.model.specs.Apply.{rules}
 
@@ -80,3 +82,17 @@ unfolding stageOf
 stage-below f =
     choice (λ n. n < 4) (eqb f 7) _ _ (omega arith)
     (choice (λ n. n < 4) (eqb f 6) _ _ (omega arith) (choice (λ n. n < 4) (eqb f 4) 2 3 (omega arith) (omega arith)))
+
+-- ---- with F = 7 every entry is free
+
+seven-free : (area : ℕ) → area < 7 → (permission area 0 0 ≡ free) × (permission area 0 1 ≡ free)
+unfolding permission permissions
+seven-free area h = (agree-at (λ i. permission i 0 0) (λ i. free) 7 refl area h, agree-at (λ i. permission i 0 1) (λ i. free) 7 refl area h)
+
+pub read-at-seven : (a : ℕ) (x : Active) → configurationAllows 0 7 a x ≡ true
+unfolding permits stageOf
+read-at-seven a x = rw (seven-free (areaOf a) (area-below a) .0)
+
+pub written-at-seven : (a : ℕ) (x : Active) → configurationAllows 1 7 a x ≡ true
+unfolding permits stageOf
+written-at-seven a x = rw (seven-free (areaOf a) (area-below a) .1)

@@ -8,16 +8,16 @@ use native.Mathlib.Nat.{le-refl}
 use native.Mathlib.Omega.{arith}
 use lib.ListN.{length}
 use Rattle.model.specs.Volatile.{Volatile, powerUp}
-use Rattle.model.specs.Command.{Command, reset, select, readZone, writeZone, readConfiguration, writeConfiguration, readFuses, writeFuses}
-use Rattle.model.specs.Command.{verifyPassword, beginAuthentication, verifyAuthentication}
-use Rattle.model.specs.Instruction.{Instruction, powerCycle, issue, wait, poll, writeStaged, arm, kindOf}
+use Rattle.model.specs.Instruction.{Command, reset, select, readZone, writeZone, readConfiguration, writeConfiguration, readFuses, writeFuses, verifyPassword}
+use Rattle.model.specs.Instruction.{beginAuthentication, verifyAuthentication, Instruction, powerCycle, issue, wait, poll, writeStaged, arm, kindOf}
 use Rattle.model.specs.Device.{Device, Counter, counterPlace}
-use Rattle.model.specs.Call.{Acted, powered, silent}
+use Rattle.model.specs.Call.{Acted, acted}
 use Rattle.model.specs.Apply.{apply}
 use Rattle.model.specs.Cells.{Cell, writeCells}
-use Rattle.model.specs.Staging.{untorn, isReady, mayStage, finalValues, stageCells, pendingCells, cellsUnder, tearsIn}
-use Rattle.model.specs.Busy.{State, makeState, powerOn, powerLost, writeTime, isBusy, actsAlways, actsBusy, isHalted, ignores, makesBusy}
-use Rattle.model.specs.Busy.{laid, cycled, staged, perform, act}
+use Rattle.model.specs.State.{untorn, State, makeState, powerOn, powerLost, writeTime, isBusy}
+use Rattle.model.specs.Staging.{isReady, mayStage, finalValues, stageCells, pendingCells, cellsUnder, tearsIn}
+use Rattle.model.specs.Busy.{actsAlways, actsBusy, isHalted, ignores, makesBusy}
+use Rattle.model.specs.Act.{laid, cycled, staged, perform, act}
 use Rattle.laws.specs.BoolLaws.{choice, and-false}
 use Rattle.laws.specs.Effects.{answerLength, answer-length, triesAfter, hands-out}
 
@@ -111,7 +111,7 @@ module _ (D : Device) where
       go false true e = absurd (true≢false e)
       go false false e = (refl, refl)
 
-  pub act-ignored : (c : List ℕ) (s : State) (i : Instruction) → ignores D c s i ≡ true → act D c s i ≡ silent (powered c s)
+  pub act-ignored : (c : List ℕ) (s : State) (i : Instruction) → ignores D c s i ≡ true → act D c s i ≡ acted c s []
   unfolding act
   act-ignored c s i e = rw e
 
@@ -120,7 +120,7 @@ module _ (D : Device) where
   act-performed c s i e = rw e
 
   -- what holds of a card that stays as it was, and of one on which the instruction is performed, holds after it
-  pub either-way : (P : Acted State → Type 0) (c : List ℕ) (s : State) (i : Instruction) → (ignores D c s i ≡ true → P (silent (powered c s)))
+  pub either-way : (P : Acted State → Type 0) (c : List ℕ) (s : State) (i : Instruction) → (ignores D c s i ≡ true → P (acted c s []))
       → (ignores D c s i ≡ false → P (perform D c s i)) → P (act D c s i)
   either-way P c s i p q = go (ignores D c s i) refl
     where

@@ -4,7 +4,7 @@ use mathlib.Core.List.{List, [], _∷_, _++_}
 use mathlib.Core.Path.{_≡_, refl, ap, _∙_}
 use native.Mathlib.Nat.{le-of-suc-le-suc}
 use native.Mathlib.Omega.{arith}
-use lib.ListN.{length, set, length-set}
+use lib.ListN.{length, set, length-set, take, getD}
 use lib.Seq.{getD-set-same}
 use Rattle.model.specs.Lists.{at, stores}
 use Rattle.model.specs.Cells.{Cell, cell, writeCells, row, torn}
@@ -93,6 +93,13 @@ pub torn-none : (spoilt : Cell → Cell) (k : ℕ) (ws : List Cell) → length w
 torn-none spoilt k [] h = refl
 torn-none spoilt zero (w ∷ ws) h = absurd (let z : ⊥ = omega arith in z)
 torn-none spoilt (suc k) (w ∷ ws) h = ap (λ (us : List Cell). w ∷ us) (torn-none spoilt k ws (le-of-suc-le-suc h))
+
+-- one before it leaves the cells before it, and spoils the next one
+pub torn-take : (spoilt : Cell → Cell) (k : ℕ) (ws : List Cell) (default : Cell) → k < length ws
+    → torn spoilt k ws ≡ take k ws ++ (spoilt (getD ws k default) ∷ [])
+torn-take spoilt k [] default h = absurd (let z : ⊥ = omega arith in z)
+torn-take spoilt zero (w ∷ ws) default h = refl
+torn-take spoilt (suc k) (w ∷ ws) default h = ap (λ (us : List Cell). w ∷ us) (torn-take spoilt k ws default (le-of-suc-le-suc h))
 
 -- ---- stores one after the other, at places apart from each other: what is at the place of one of them, and at any other place
 

@@ -11,8 +11,8 @@ use lib.Seq.{getD-set-same}
 use Rattle.model.specs.Lists.{at, sameList, stores}
 use Rattle.laws.specs.ListLaws.{length-tab}
 use Rattle.model.specs.Volatile.{Volatile, none, selector, idle, begun, granted, isBegun, selecting, activating, authenticating}
-use Rattle.model.specs.Command.{Command, reset, select, readZone, writeZone, readConfiguration, writeConfiguration, readFuses, writeFuses}
-use Rattle.model.specs.Command.{verifyPassword, beginAuthentication, verifyAuthentication}
+use Rattle.model.specs.Instruction.{Command, reset, select, readZone, writeZone, readConfiguration, writeConfiguration, readFuses, writeFuses, verifyPassword}
+use Rattle.model.specs.Instruction.{beginAuthentication, verifyAuthentication}
 use Rattle.model.specs.Device.{Device, Counter, ofPassword, ofAuthentication, counterPlace}
 use Rattle.model.specs.Apply.{fullCounter, attemptOf, judgementOf, rules, kept, password, presented, started, judged, apply}
 
@@ -99,9 +99,23 @@ module _ (D : Device) where
   answer-length c s (writeConfiguration a xs) = refl
   answer-length c s readFuses = refl
   answer-length c s writeFuses = refl
-  answer-length c s (verifyPassword k xs) = refl
-  answer-length c s beginAuthentication = refl
-  answer-length c s (verifyAuthentication v xs) = refl
+  answer-length c s (verifyPassword k xs) = go (eqb (at c (D .counterAt k)) 0) (sameList xs (password D c k))
+    where
+      go : (l r : Bool) → length (presented D (attemptOf l r) c s k .report .answer) ≡ 0
+      go true r = refl
+      go false true = refl
+      go false false = refl
+  answer-length c s beginAuthentication = go (eqb (at c (D .attemptsAt)) 0)
+    where
+      go : (l : Bool) → length (started D l c s .report .answer) ≡ 0
+      go true = refl
+      go false = refl
+  answer-length c s (verifyAuthentication v xs) = go (isBegun (s .authentication)) v
+    where
+      go : (b v : Bool) → length (judged D (judgementOf b v) c s xs .report .answer) ≡ 0
+      go false v = refl
+      go true true = refl
+      go true false = refl
 
   -- what a counter that is used up leaves, and one that was set
   used-left : (c : List ℕ) (i : ℕ) → D .tries 0 ≡ 0 → eqb (at c i) 0 ≡ true → 0 ≡ D .tries (at c i)
@@ -125,16 +139,21 @@ module _ (D : Device) where
   hands-out z c s (verifyPassword k xs) h = go (eqb (at c (D .counterAt k)) 0) (sameList xs (password D c k)) refl
     where
       go : (l r : Bool) → eqb (at c (D .counterAt k)) 0 ≡ l
-          → presented D (attemptOf l r) c s k .tries ≡ D .tries (at (presented D (attemptOf l r) c s k .card) (D .counterAt k))
+          → presented D (attemptOf l r) c s k .report .tries ≡ D .tries (at (presented D (attemptOf l r) c s k .card) (D .counterAt k))
       go true r e = used-left c (D .counterAt k) z e
       go false true e = set-left c (D .counterAt k) fullCounter (h (ofPassword k))
       go false false e = set-left c (D .counterAt k) _ (h (ofPassword k))
   hands-out z c s beginAuthentication h = go (eqb (at c (D .attemptsAt)) 0) refl
     where
-      go : (l : Bool) → eqb (at c (D .attemptsAt)) 0 ≡ l → started D l c s .tries ≡ D .tries (at (started D l c s .card) (D .attemptsAt))
+      go : (l : Bool) → eqb (at c (D .attemptsAt)) 0 ≡ l → started D l c s .report .tries ≡ D .tries (at (started D l c s .card) (D .attemptsAt))
       go true e = used-left c (D .attemptsAt) z e
       go false e = set-left c (D .attemptsAt) _ (h ofAuthentication)
-  hands-out z c s (verifyAuthentication v xs) h = refl
+  hands-out z c s (verifyAuthentication v xs) h = go (isBegun (s .authentication)) v
+    where
+      go : (b v : Bool) → judged D (judgementOf b v) c s xs .report .tries ≡ 0
+      go false v = refl
+      go true true = refl
+      go true false = refl
 
   -- a command changes a card by such changes alone: what each of them keeps, the command keeps
   module _ (Inv : List ℕ → Type 0) (c : List ℕ) (s : Volatile) where
@@ -183,18 +202,18 @@ module _ (D : Device) where
   moves c s writeFuses = stays
   moves c s (verifyPassword k xs) = go (eqb (at c (D .counterAt k)) 0) (sameList xs (password D c k)) refl
     where
-      go : (l r : Bool) → sameList xs (password D c k) ≡ r → Move D c s (verifyPassword k xs) (presented D (attemptOf l r) c s k .state)
+      go : (l r : Bool) → sameList xs (password D c k) ≡ r → Move D c s (verifyPassword k xs) (presented D (attemptOf l r) c s k .report .state)
       go true r e = stays
       go false true e = opens e
       go false false e = closes
   moves c s beginAuthentication = go (eqb (at c (D .attemptsAt)) 0)
     where
-      go : (l : Bool) → Move D c s beginAuthentication (started D l c s .state)
+      go : (l : Bool) → Move D c s beginAuthentication (started D l c s .report .state)
       go true = stays
       go false = begins
   moves c s (verifyAuthentication v xs) = go (isBegun (s .authentication)) v refl
     where
-      go : (b v : Bool) → isBegun (s .authentication) ≡ b → Move D c s (verifyAuthentication v xs) (judged D (judgementOf b v) c s xs .state)
+      go : (b v : Bool) → isBegun (s .authentication) ≡ b → Move D c s (verifyAuthentication v xs) (judged D (judgementOf b v) c s xs .report .state)
       go false v e = stays
       go true true e = grants e
       go true false e = denies

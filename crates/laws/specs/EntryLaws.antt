@@ -5,12 +5,12 @@ use mathlib.Core.Bool.{Bool, true, false, cond, true≢false}
 use mathlib.Core.List.{List}
 use mathlib.Core.Path.{_≡_, refl, sym, ap}
 use native.Mathlib.Omega.{arith}
-use Rattle.model.specs.Command.{reset, select, readZone, writeZone, readConfiguration, writeConfiguration, readFuses, writeFuses}
-use Rattle.model.specs.Command.{verifyPassword, beginAuthentication, verifyAuthentication}
-use Rattle.model.specs.Instruction.{Instruction, powerCycle, issue, wait, poll, writeStaged, arm, kindOf}
+use Rattle.model.specs.Instruction.{reset, select, readZone, writeZone, readConfiguration, writeConfiguration, readFuses, writeFuses, verifyPassword}
+use Rattle.model.specs.Instruction.{beginAuthentication, verifyAuthentication, Instruction, powerCycle, issue, wait, poll, writeStaged, arm, kindOf}
 use Rattle.model.specs.Device.{Device}
 use Rattle.model.specs.Apply.{apply}
-use Rattle.model.specs.Busy.{State, perform, act}
+use Rattle.model.specs.State.{State}
+use Rattle.model.specs.Act.{perform, act}
 use Rattle.model.specs.Busy as any
 use Rattle.model.specs.At88sc1608.{at88sc1608}
 use Rattle.model.specs.Single.{answeredKind}

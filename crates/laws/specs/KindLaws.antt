@@ -3,20 +3,30 @@ use Prim.Native.Nat.{ℕ, _-_, _≤_, _<_}
 use mathlib.Core.Bool.{Bool, true, false, not, _&&_}
 use mathlib.Core.Path.{_≡_, refl, sym, subst}
 use native.Mathlib.Omega.{arith}
-use borrow.Author.Tests.{leb-true, leb-false, eqb-true, eqb-false, not-true}
+use borrow.Author.Tests.{leb-true, leb-false, le-leb, eqb-true, eqb-false, ne-eqb, not-true}
 use lib.Dec.{leb, eqb}
 use lib.ListN.{List·getD-eq-default}
 use Rattle.model.specs.Record.{Kind, kinds, known, rowOf}
 use Rattle.laws.specs.BoolLaws.{and-left, and-right}
 use Rattle.laws.specs.Tables.{each}
 
+-- the known kinds are 1 to 16
+pub known-within : (kind : ℕ) → known kind ≡ true → (1 ≤ kind) × (kind ≤ 16)
+known-within kind e =
+    let z : kind ≡ 0 → ⊥ = eqb-false kind 0 (not-true _ (and-left (not (eqb kind 0)) (leb kind 16) e)) in
+    let m : kind ≤ 16 = leb-true kind 16 (and-right (not (eqb kind 0)) (leb kind 16) e) in
+    (omega arith, m)
+
+pub within-known : (kind : ℕ) → (1 ≤ kind) × (kind ≤ 16) → known kind ≡ true
+within-known kind h = rw (ne-eqb kind 0 (λ e. omega arith), le-leb kind 16 (h .1))
+
 -- what holds at each of the sixteen kinds holds at every known kind
 pub each-kind : (P : ℕ → Type 0) → P 1 → P 2 → P 3 → P 4 → P 5 → P 6 → P 7 → P 8 → P 9 → P 10 → P 11 → P 12
     → P 13 → P 14 → P 15 → P 16 → (kind : ℕ) → known kind ≡ true → P kind
 each-kind P p₁ p₂ p₃ p₄ p₅ p₆ p₇ p₈ p₉ p₁₀ p₁₁ p₁₂ p₁₃ p₁₄ p₁₅ p₁₆ kind w =
+    let h = known-within kind w in
     each P 1 16 (p₁, (p₂, (p₃, (p₄, (p₅, (p₆, (p₇, (p₈, (p₉, (p₁₀, (p₁₁, (p₁₂, (p₁₃, (p₁₄, (p₁₅, (p₁₆, tt)))))))))))))))) kind
-    (let z : kind ≡ 0 → ⊥ = eqb-false kind 0 (not-true _ (and-left (not (eqb kind 0)) (leb kind 16) w)) in omega arith)
-    (let z : kind ≤ 16 = leb-true kind 16 (and-right (not (eqb kind 0)) (leb kind 16) w) in omega arith)
+    (h .0) (let m = h .1 in omega arith)
 
 -- every unknown kind has the row of kind 1: no fields, no data, no answer
 pub unknown-row : (kind : ℕ) → known kind ≡ false → rowOf kind ≡ rowOf 1

@@ -4,6 +4,7 @@ pub mod ListLaws
 pub mod Tables
 pub mod Loops
 pub mod NumberLaws
+pub mod Reversal
 pub mod ReversalLaws
 pub mod BitLaws
 pub mod CallLaws
@@ -17,7 +18,9 @@ pub mod ReadLaws
 pub mod WordLaws
 pub mod Effects
 pub mod CellLaws
+pub mod WriteLaws
 pub mod StagingLaws
 pub mod BusyLaws
+pub mod HeededLaws
 pub mod EntryLaws
 pub mod Sane

@@ -13,6 +13,10 @@ use lib.Seq.{ext-getD, getD-set-same, getD-set-other, set-out, getD-at, getD-dro
 use Rattle.model.specs.Lists.{at, tab, sameList, Bytes}
 use Rattle.laws.specs.BoolLaws.{choice, and-left, and-right}
 
+pub no-elements : (xs : List ℕ) → length xs ≡ 0 → xs ≡ []
+no-elements [] e = refl
+no-elements (x ∷ xs) e = absurd (let z : ⊥ = omega arith in z)
+
 pub length-tab : (f : ℕ → ℕ) (n : ℕ) → length (tab f n) ≡ n
 unfolding tab
 length-tab f zero = refl

@@ -8,7 +8,7 @@ use Rattle.model.specs.Sizes.{fuseAt}
 use Rattle.model.specs.Lists.{at, tab}
 use Rattle.laws.specs.ListLaws.{tab-cong, at-tab}
 use Rattle.model.specs.Volatile.{Volatile}
-use Rattle.model.specs.Command.{readZone, readConfiguration}
+use Rattle.model.specs.Instruction.{readZone, readConfiguration}
 use Rattle.model.specs.Access.{zoneReadable, configurationAllows}
 use Rattle.model.specs.At88sc1608.{at88sc1608, zoneByte, configurationByte, registerAt, configurationAt}
 use Rattle.laws.specs.AccessLaws.{fuse-rule, zone-register, zone-read, zone-concealed, configuration-read, configuration-concealed}

@@ -14,9 +14,8 @@ use Rattle.laws.specs.BoolLaws.{and-left, and-right}
 use Rattle.laws.specs.KindLaws.{each-kind, each-row}
 use Rattle.model.specs.Call.{whole}
 use Rattle.laws.specs.CallLaws.{past}
-use Rattle.model.specs.Command.{Command, reset, select, readZone, writeZone, readConfiguration, writeConfiguration, readFuses, writeFuses}
-use Rattle.model.specs.Command.{verifyPassword, beginAuthentication, verifyAuthentication}
-use Rattle.model.specs.Instruction.{Instruction, powerCycle, issue, wait, poll, writeStaged, arm, kindOf}
+use Rattle.model.specs.Instruction.{Command, reset, select, readZone, writeZone, readConfiguration, writeConfiguration, readFuses, writeFuses, verifyPassword}
+use Rattle.model.specs.Instruction.{beginAuthentication, verifyAuthentication, Instruction, powerCycle, issue, wait, poll, writeStaged, arm, kindOf}
 use Rattle.model.specs.Record.{Kind, kinds, known, fixedFields, inRange, dataLength, made, dataAt, recordLength, decode}
 
 -- the data of a record

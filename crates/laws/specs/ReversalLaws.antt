@@ -3,7 +3,7 @@ use Prim.Native.Nat.{ℕ, _<_}
 use mathlib.Core.Path.{_≡_, refl}
 use Rattle.model.specs.Lists.{at}
 use Rattle.model.specs.Bits.{reversed}
-use Rattle.model.specs.Reversal.{reversals}
+use Rattle.laws.specs.Reversal.{reversals}
 use Rattle.laws.specs.Tables.{agree-at}
 
 pub reversal-rule : (b : ℕ) → b < 256 → at reversals b ≡ reversed b

@@ -16,7 +16,7 @@ use Rattle.laws.specs.ListLaws.{length-tab, at-set-other, at-set-kept, a
 use Rattle.laws.specs.Tables.{passes-at}
 use Rattle.model.specs.Bits.{spentCounter}
 use Rattle.model.specs.Volatile.{Volatile}
-use Rattle.model.specs.Command.{Command, select, verifyPassword}
+use Rattle.model.specs.Instruction.{Command, select, verifyPassword, Instruction}
 use Rattle.model.specs.Device.{Device, Counter, ofPassword, ofAuthentication, counterPlace}
 use Rattle.model.specs.Call.{Powered, Call}
 use Rattle.laws.specs.CallLaws.{clear, list-keeps}
@@ -26,10 +26,10 @@ use Rattle.model.specs.Apply.{rules, kept}
 use Rattle.model.specs.Apply as any
 use Rattle.model.specs.Record.{decode}
 use Rattle.laws.specs.RecordLaws.{Fields, Ranged, decode-ranged}
-use Rattle.model.specs.Instruction.{Instruction}
 use Rattle.model.specs.Cells.{Cell, writeCells}
 use Rattle.model.specs.Staging.{isReady, stagedZone, stagedAddress, stagedValues, finalValues, cellsUnder}
-use Rattle.model.specs.Busy.{State, writeTime, ignores}
+use Rattle.model.specs.State.{State, writeTime}
+use Rattle.model.specs.Busy.{ignores}
 use Rattle.laws.specs.CellLaws.{length-cells}
 use Rattle.laws.specs.StagingLaws.{Stages, Torn, Begun, staging-same, fits-idle, fits-ready, torn-fits, finished, staged}
 use Rattle.laws.specs.BusyLaws.{Lays, finishes, stages, staged-meets, act-keeps, act-time}

@@ -9,7 +9,7 @@ use Rattle.model.specs.Sizes.{cardSize, fuseAt}
 use Rattle.model.specs.Lists.{at}
 use Rattle.laws.specs.BoolLaws.{choice}
 use Rattle.model.specs.Instruction.{Instruction}
-use Rattle.model.specs.Busy.{State}
+use Rattle.model.specs.State.{State}
 use Rattle.model.specs.At88sc1608.{at88sc1608}
 use Rattle.model.specs.Call.{Decoded, refused, whole, Call, checked, exact}
 use Rattle.model.specs.Call as calls

@@ -12,8 +12,9 @@ use lib.Seq.{getD-set-same}
 use Rattle.model.specs.Lists.{at, tab}
 use Rattle.model.specs.Cells.{Cell, cell, writeCells, row, torn}
 use Rattle.model.specs.Device.{Device}
-use Rattle.model.specs.Staging.{idleFlag, readyFlag, Tear, untorn, tearAfter, isReady, stagedAt, stagedZone, stagedAddress, stagedLength, stagedValues}
-use Rattle.model.specs.Staging.{stagingFits, finishCells, stageCells, spoilt, cellsUnder, tearsIn}
+use Rattle.model.specs.Staging.{idleFlag, readyFlag, isReady, stagedAt, stagedZone, stagedAddress, stagedLength, stagedValues, stagingFits, finishCells}
+use Rattle.model.specs.Staging.{stageCells, spoilt, cellsUnder, tearsIn}
+use Rattle.model.specs.State.{Tear, untorn, tearAfter}
 use Rattle.laws.specs.BoolLaws.{and-left, and-right, or-left}
 use Rattle.laws.specs.ListLaws.{length-tab, tab-cong, tab-list, at-set-other}
 use Rattle.laws.specs.CellLaws.{length-cells, length-row, cells-append, cells-one, Places, places-row, places-torn, cells-keep, row-at}
@@ -159,6 +160,19 @@ module _ (D : Device) where
       zone-row : Places InZone (row (D .zoneCell z a) vs)
       zone-row = places-row _ _ vs (λ k l. (k, l, refl))
 
+      -- torn among them, they leave the rest; whole, they have their values
+      row-keeps : (junk k j : ℕ) → Unnamed z a (length vs) j → at (writeCells (torn (spoilt D junk) k (row (D .zoneCell z a) vs)) d) j ≡ at d j
+      row-keeps junk k j u =
+          cells-keep j (torn (spoilt D junk) k (row (D .zoneCell z a) vs)) d
+          (avoids j u (torn (spoilt D junk) k (row (D .zoneCell z a) vs))
+          (places-torn InZone (spoilt D junk) (λ w. refl) k (row (D .zoneCell z a) vs) zone-row))
+
+      row-written : (k : ℕ) → k < length vs → at (writeCells (row (D .zoneCell z a) vs) d) (D .zoneCell z a k) ≡ at vs k
+      row-written =
+          row-at (D .zoneCell z a) vs d
+          (λ k l. let w = S .cell-below z a k in let s = S .staging-within in let p = g .long in let q = g .size in omega arith)
+          (λ j k l m q. S .cells-apart z a j k (omega arith) (omega arith) q)
+
       -- torn among them
       among : (junk k : ℕ) → Torn c z a vs (writeCells (torn (spoilt D junk) k (row (D .zoneCell z a) vs)) d)
       among junk k =
@@ -173,7 +187,7 @@ module _ (D : Device) where
           ws = torn (spoilt D junk) k (row (D .zoneCell z a) vs)
 
           keep : (j : ℕ) → Unnamed z a (length vs) j → at (writeCells ws d) j ≡ at d j
-          keep j u = cells-keep j ws d (avoids j u ws (places-torn InZone (spoilt D junk) (λ w. refl) k (row (D .zoneCell z a) vs) zone-row))
+          keep = row-keeps junk k
 
       -- all of them written, and then the flag, idle or not
       behind-them : (t : Bool) → Torn c z a vs (writeCells (row (D .zoneCell z a) vs ++ (cell (D .flagAt) (cond t readyFlag idleFlag) ∷ [])) d)
@@ -198,12 +212,6 @@ module _ (D : Device) where
           keep : (j : ℕ) → Unnamed z a (length vs) j → at e j ≡ at d j
           keep j u = cells-keep j (row (D .zoneCell z a) vs) d (avoids j u (row (D .zoneCell z a) vs) zone-row)
 
-          written : (k : ℕ) → k < length vs → at e (D .zoneCell z a k) ≡ at vs k
-          written =
-              row-at (D .zoneCell z a) vs d
-              (λ k l. let w = S .cell-below z a k in let s = S .staging-within in let p = g .long in let q = g .size in omega arith)
-              (λ j k l m q. S .cells-apart z a j k (omega arith) (omega arith) q)
-
           flag-is : (v : ℕ) → at (set e (D .flagAt) v) (D .flagAt) ≡ v
           flag-is v = getD-set-same e (D .flagAt) v 0 (let l = e-long in let s = S .staging-within in let q = g .size in omega arith)
 
@@ -214,7 +222,7 @@ module _ (D : Device) where
               (λ j l. at-set-other e _ _ j (λ q. omega arith) ∙ keep j (behind j (omega arith))) (g .names))
           go false =
               all (flag-is idleFlag)
-              (λ k l. at-set-other e _ _ (D .zoneCell z a k) (λ q. let w = S .cell-below z a k in omega arith) ∙ written k l)
+              (λ k l. at-set-other e _ _ (D .zoneCell z a k) (λ q. let w = S .cell-below z a k in omega arith) ∙ row-written k l)
 
       pub finished : (tear : Tear) → Torn c z a vs (writeCells (cellsUnder D tear (finishCells D z a vs)) d)
       finished untorn = behind-them false
@@ -228,6 +236,34 @@ module _ (D : Device) where
               → Torn c z a vs (writeCells (torn (spoilt D junk) k (finishCells D z a vs)) d)
           go (within e) = rw e (among junk k)
           go (past m e) = rw (e, last m .1) (behind-them (last m .0))
+
+      -- where it leaves an idle flag, the bytes of the zone have their values
+      pub finished-new : (tear : Tear) → at (writeCells (cellsUnder D tear (finishCells D z a vs)) d) (D .flagAt) ≡ idleFlag
+          → (j : ℕ) → j < length vs → at (writeCells (cellsUnder D tear (finishCells D z a vs)) d) (D .zoneCell z a j) ≡ at vs j
+      finished-new tear idle j l = go tear idle
+        where
+          whole : (v : ℕ) → at (writeCells (row (D .zoneCell z a) vs ++ (cell (D .flagAt) v ∷ [])) d) (D .zoneCell z a j) ≡ at vs j
+          whole v =
+              rw (cells-append (row (D .zoneCell z a) vs) (cell (D .flagAt) v ∷ []) d, cells-one (D .flagAt) v (writeCells (row (D .zoneCell z a) vs) d))
+              (at-set-other (writeCells (row (D .zoneCell z a) vs) d) _ _ (D .zoneCell z a j) (λ q. let w = S .cell-below z a j in omega arith)
+              ∙ row-written j l)
+
+          last : (junk m : ℕ) → (v : ℕ) × (torn (spoilt D junk) m (cell (D .flagAt) idleFlag ∷ []) ≡ cell (D .flagAt) v ∷ [])
+          last junk zero = (_, ap (λ (w : Cell). w ∷ []) (spoilt-flag idleFlag junk refl))
+          last junk (suc m) = (idleFlag, refl)
+
+          go : (tear : Tear) → at (writeCells (cellsUnder D tear (finishCells D z a vs)) d) (D .flagAt) ≡ idleFlag
+              → at (writeCells (cellsUnder D tear (finishCells D z a vs)) d) (D .zoneCell z a j) ≡ at vs j
+          go untorn e = whole idleFlag
+          go (tearAfter k junk) e = by (falls (spoilt D junk) k (row (D .zoneCell z a) vs) (cell (D .flagAt) idleFlag ∷ []))
+            where
+              by : Falls (spoilt D junk) k (row (D .zoneCell z a) vs) (cell (D .flagAt) idleFlag ∷ [])
+                  → at (writeCells (torn (spoilt D junk) k (finishCells D z a vs)) d) (D .zoneCell z a j) ≡ at vs j
+              by (within q) =
+                  let f : at (writeCells (torn (spoilt D junk) k (row (D .zoneCell z a) vs)) d) (D .flagAt) ≡ idleFlag = rw q at e in
+                  let r : readyFlag ≡ idleFlag = sym (row-keeps junk k (D .flagAt) (behind _ (omega arith)) ∙ g .ready) ∙ f in
+                  absurd (let n : ⊥ = omega (arith, r) in n)
+              by (past m q) = rw (q, last junk m .1) (whole (last junk m .0))
 
     -- ---- the write: c has no write to finish
 

@@ -9,9 +9,8 @@ use lib.ListN.{length}
 use Rattle.model.specs.Lists.{at, Bytes, sameList}
 use Rattle.model.specs.Numbers.{numberAt}
 use Rattle.model.specs.Volatile.{Volatile}
-use Rattle.model.specs.Command.{verifyPassword}
+use Rattle.model.specs.Instruction.{verifyPassword}
 use Rattle.model.specs.Device.{Device}
-use Rattle.model.specs.Call.{attempted}
 use Rattle.model.specs.Apply.{password, presented, attemptOf}
 use Rattle.model.specs.Apply as any
 use Rattle.laws.specs.ListLaws.{length-tab, tab-bytes}
@@ -28,7 +27,7 @@ module _ (D : Device) (c xs : List ℕ) (k : ℕ) (card : Bytes c) (bytes : Byte
   passwords-tested = numbers-tested (D .passwordCount) xs (password D c k) bytes (password-bytes D c k card) long (length-tab _ (D .passwordCount))
 
   pub passwords-decide : (s : Volatile) → any.apply D c s (verifyPassword k xs)
-      ≡ attempted (presented D
-      (attemptOf (eqb (at c (D .counterAt k)) 0) (eqb (numberAt xs 0 (D .passwordCount)) (numberAt (password D c k) 0 (D .passwordCount)))) c s k)
+      ≡ presented D
+      (attemptOf (eqb (at c (D .counterAt k)) 0) (eqb (numberAt xs 0 (D .passwordCount)) (numberAt (password D c k) 0 (D .passwordCount)))) c s k
   unfolding any.apply
-  passwords-decide s = ap (λ (t : Bool). attempted (presented D (attemptOf (eqb (at c (D .counterAt k)) 0) t) c s k)) (sym passwords-tested)
+  passwords-decide s = ap (λ (t : Bool). presented D (attemptOf (eqb (at c (D .counterAt k)) 0) t) c s k) (sym passwords-tested)

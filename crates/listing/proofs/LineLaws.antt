@@ -11,7 +11,8 @@ use Rattle.model.specs.Device.{triesOf}
 use Rattle.model.specs.At88sc1608.{at88sc1608}
 use Rattle.model.specs.Lists.{at}
 use Rattle.laws.specs.BoolLaws.{and-left, and-right}
-use Rattle.model.specs.Log.{zoned, headerLength, countOf, offsetOf, lengthAt, responseAt, entryOk, entriesOk, trailerOk, validAs}
+use Rattle.model.specs.Log.{zoned, headerLength}
+use Rattle.model.specs.LogCheck.{countOf, offsetOf, lengthAt, responseAt, entryOk, entriesOk, trailerOk, validAs}
 use Rattle.properties.specs.LogLaws.{entered, Trailed, trailed}
 use Rattle.text.specs.Put.{Put}
 use Rattle.listing.specs.Ready.{EntriesReady, LogReady}

@@ -4,12 +4,13 @@ use mathlib.Core.List.{List, [], _++_}
 use mathlib.Core.Path.{_≡_}
 use lib.ListN.{length, take, drop, replicate}
 use lib.Seq.{sets}
-use Rattle.model.specs.Sizes.{cardSize, fuseAt, printingSpace}
+use Rattle.model.specs.Sizes.{cardSize, fuseAt}
 use Rattle.model.specs.Lists.{at}
 use Rattle.model.specs.Instruction.{Instruction}
 use Rattle.model.specs.Device.{triesOf}
 use Rattle.model.specs.At88sc1608.{at88sc1608}
-use Rattle.model.specs.Log.{zoned, countOf, offsetOf, lengthAt, responseAt, nextEntry}
+use Rattle.model.specs.Log.{zoned}
+use Rattle.model.specs.LogCheck.{countOf, offsetOf, lengthAt, responseAt, nextEntry}
 use Rattle.model.specs.Session.{instructionsIn, readFrom, entriesOf, endOf, initial, run}
 use Rattle.model.specs.Session as session
 use Rattle.text.specs.Text.{line, lines, triesLine, fusesLine, refusedLine}
@@ -41,7 +42,11 @@ pub record Listed : Type 0 where
 abbrev pub listIn : List ℕ → List ℕ → List ℕ → Listed
 listIn s log text = record { size = min (length (listing s log)) (length text); log = run s log .space; text = sets text 0 (listing s log) }
 
--- what the program prints of a session: its listing, with the program's log space
+-- the log space of the printing program
+abbrev pub printingSpace : ℕ
+printingSpace = 65536
+
+-- what it prints of a session: its listing, with that log space
 abbrev pub printed : List ℕ → List ℕ
 printed s = listing s (replicate printingSpace 0)
 

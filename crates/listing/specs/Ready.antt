@@ -4,7 +4,8 @@ use mathlib.Core.Bool.{true}
 use mathlib.Core.List.{List}
 use mathlib.Core.Path.{_≡_}
 use lib.ListN.{length}
-use Rattle.model.specs.Log.{zoned, entriesOk, validAs}
+use Rattle.model.specs.Log.{zoned}
+use Rattle.model.specs.LogCheck.{entriesOk, validAs}
 use Rattle.listing.specs.Listing.{linesAt, logLines}
 
 -- entries that end at a place before the log's end

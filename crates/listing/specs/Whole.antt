@@ -5,7 +5,6 @@ use mathlib.Core.Path.{_≡_, refl, sym, ap, _∙_}
 use native.Mathlib.Omega.{arith}
 use lib.ListN.{length, replicate, length-append, length-replicate}
 use lib.Seq.{length-sets}
-use Rattle.model.specs.Sizes.{printingSpace}
 use Rattle.model.specs.Lists.{Bytes}
 use Rattle.laws.specs.BoolLaws.{choice}
 use Rattle.model.specs.Reader.{partAt}
@@ -18,7 +17,7 @@ use Rattle.properties.specs.AcceptedSessionLaws.{log-within}
 use Rattle.properties.specs.ReadBack.{laid-out}
 use Rattle.text.specs.Text.{decimal}
 use Rattle.text.specs.TextLaws.{decimal-few}
-use Rattle.listing.specs.Listing.{listing, Listed, listIn, printed, Printed, logLines}
+use Rattle.listing.specs.Listing.{printingSpace, listing, Listed, listIn, printed, Printed, logLines}
 use Rattle.listing.specs.ListingLaws.{log-listed, listing-length}
 
 -- ---- no refusal of a session has more than four digits

@@ -7,7 +7,8 @@ use native.Mathlib.Omega.{arith}
 use borrow.Author.Tests.{lt-ltb, le-ltb, not-true, not-false}
 use lib.ListN.{length}
 use Rattle.model.specs.Lists.{at}
-use Rattle.model.specs.Log.{Found, zoned, lengthAt, responseAt, nextEntry, countOf, offsetOf, trailerOk, validAs, find, missing, located}
+use Rattle.model.specs.LogCheck.{Found, lengthAt, responseAt, nextEntry, countOf, offsetOf, trailerOk, validAs, find, missing, located}
+use Rattle.model.specs.Log.{zoned}
 use Rattle.model.specs.Refusal.{notALog, noSuchAnswer}
 use Rattle.laws.specs.EntryLaws.{header-least}
 use Rattle.properties.specs.LogLaws.{Trailed, trailed, entry-ends, answer-within}

@@ -11,13 +11,13 @@ use Rattle.model.specs.Sizes.{fuseAt, leastLog, mostRecords}
 use Rattle.model.specs.Lists.{at}
 use Rattle.laws.specs.BoolLaws.{and-false}
 use Rattle.laws.specs.Tables.{tests-at}
-use Rattle.model.specs.Log.{zoned, namesZone, headerLength, ignoredKind, entryFits, zoneFits, lengthAt, nextEntry, entryOk, entriesOk}
-use Rattle.model.specs.Log.{entryPlace, countOf, offsetOf, trailerOk, responseAt, located}
+use Rattle.model.specs.Log.{zoned, namesZone, headerLength, ignoredKind, entryFits, zoneFits}
+use Rattle.model.specs.LogCheck.{lengthAt, nextEntry, entryOk, entriesOk, entryPlace, countOf, offsetOf, trailerOk, responseAt, located}
 use Rattle.laws.specs.EntryLaws.{header-least, header-four, header-three}
 use Rattle.properties.specs.LogLaws.{entered}
 use Rattle.model.specs.Record.{known, lengthFits}
 use Rattle.model.specs.Single.{isFuseByte, stagingFits}
-use Rattle.record.specs.HeadLaws.{known-within}
+use Rattle.laws.specs.KindLaws.{known-within}
 use Rattle.log.specs.Scan.{entryEnd, Scanned}
 
 -- ---- the kind byte and the response's length of an entry
@@ -83,13 +83,13 @@ module _ (l : List ℕ) (i end : ℕ) where
         pub bad-zone : 7 < at l (i + 3) → 0 ≡ entryEnd l i end
         bad-zone h = sym (left ∙ rw (named-fits (at l i) (at l (i + 3)) (sym names ∙ t), lt-leb _ _ h))
 
-        pub named-end : (r : ℕ) → at l (i + 3) ≤ 7 → r ≡ cond (leb (i + 4 + n) end) (i + 4 + n) 0 → r ≡ entryEnd l i end
-        named-end r h e =
-            e ∙ sym (left ∙ rw (named-fits (at l i) (at l (i + 3)) (sym names ∙ t), le-leb _ _ h, ← (header-four zoned (at l i) named names t)))
+        pub named-end : (from : ℕ) → from ≡ i + 4 → (r : ℕ) → at l (i + 3) ≤ 7 → r ≡ cond (leb (from + n) end) (from + n) 0 → r ≡ entryEnd l i end
+        named-end from f r h e =
+            e ∙ sym (left ∙ rw (named-fits (at l i) (at l (i + 3)) (sym names ∙ t), le-leb _ _ h, ← (header-four zoned (at l i) named names t), ← f))
 
-      pub unnamed-end : (r : ℕ) → named ≡ false → r ≡ cond (leb (i + 3 + n) end) (i + 3 + n) 0 → r ≡ entryEnd l i end
-      unnamed-end r t e =
-          e ∙ sym (left ∙ rw (unnamed-fits (at l i) (at l (i + 3)) (sym names ∙ t), ← (header-three zoned (at l i) named names t)))
+      pub unnamed-end : (from : ℕ) → from ≡ i + 3 → (r : ℕ) → named ≡ false → r ≡ cond (leb (from + n) end) (from + n) 0 → r ≡ entryEnd l i end
+      unnamed-end from f r t e =
+          e ∙ sym (left ∙ rw (unnamed-fits (at l i) (at l (i + 3)) (sym names ∙ t), ← (header-three zoned (at l i) named names t), ← f))
 
 -- ---- the pass over the entries
 

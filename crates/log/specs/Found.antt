@@ -2,7 +2,7 @@
 use Prim.Native.Nat.{ℕ, _+_, _≤_}
 use mathlib.Core.List.{List}
 use lib.ListN.{length}
-use Rattle.model.specs.Log as model
+use Rattle.model.specs.LogCheck as model
 use Rattle.record.specs.RefusalNumber.{refusalNumber}
 use Rattle.log.specs.declared.find.Found.{Found}
 use Rattle.log.specs.declared.find.Found.the-variants as found

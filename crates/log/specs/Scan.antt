@@ -3,7 +3,8 @@ use Prim.Native.Nat.{ℕ, _<_}
 use mathlib.Core.Bool.{Bool, true, cond}
 use mathlib.Core.List.{List}
 use mathlib.Core.Path.{_≡_}
-use Rattle.model.specs.Log.{zoned, nextEntry, entryOk, entriesOk, entryPlace}
+use Rattle.model.specs.Log.{zoned}
+use Rattle.model.specs.LogCheck.{nextEntry, entryOk, entriesOk, entryPlace}
 
 -- where the entry at a place ends, 0 where it is not well
 abbrev pub entryEnd : List ℕ → ℕ → ℕ → ℕ

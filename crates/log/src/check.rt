@@ -7,9 +7,9 @@ ghost use Rattle.model.specs.Log as model;
 ghost use lib.Dec.{leb};
 ghost use Rattle.log.specs.Scan.{entryEnd, Scanned};
 use header::names_zone;
-use record::kind::both;
-use record::kind::is_known;
-use record::kind::length_fits;
+use kinds::both;
+use kinds::is_known;
+use kinds::length_fits;
 use record::number::get2;
 
 // Whether a kind byte is that of an ignored record: kinds 2 to 15, plus 128.
@@ -49,13 +49,14 @@ fn entry_end(log: &[u8], at: usize, end: usize) -> usize
     if !entry_fits(kind, response) {
         return 0;
     }
+    let mut from = at + 3;
     if names_zone(kind) {
-        if 7 < log[at + 3] {
+        if 7 < log[from] {
             return 0;
         }
-        return ended(at + 4 + response, end);
+        from = at + 4;
     }
-    ended(at + 3 + response, end)
+    ended(from + response, end)
 }
 
 // What a pass over the entries finds: whether they are all well and end at the card, and the place of one of them.

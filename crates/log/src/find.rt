@@ -2,7 +2,8 @@
 ghost use mathlib.Core.Path.{_≡_};
 ghost use Prim.Native.Nat.{_+_, _-_, _≤_};
 ghost use lib.ListN.{length, take, drop};
-ghost use Rattle.model.specs.Log as model;
+ghost use Rattle.model.specs.Log.{zoned};
+ghost use Rattle.model.specs.LogCheck as model;
 ghost use Rattle.log.specs.Found.{foundOf, Within};
 use crate::check::scan;
 use access::rights::is_fuse_byte;
@@ -24,7 +25,7 @@ pub enum Found {
 
 // Whether the trailer and the card before it are those of a log.
 fn trailer_ok(log: &[u8]) -> bool
-    ensures { λ r. ⌜ r ≡ model.trailerOk model.zoned (now (log .entry)) ⌝ }
+    ensures { λ r. ⌜ r ≡ model.trailerOk zoned (now (log .entry)) ⌝ }
 {
     let length = log.len();
     if length < LEAST_LOG {
@@ -52,7 +53,7 @@ fn trailer_ok(log: &[u8]) -> bool
 // helper: where the response of the entry at a place lies.
 fn response_at(log: &[u8], place: usize) -> Found
     requires { ⌜ place + 4 ≤ length (now log) ⌝ }
-    ensures { λ r. ⌜ foundOf r ≡ model.located (model.responseAt model.zoned (now (log .entry)) place) (model.lengthAt (now (log .entry)) place) ⌝ }
+    ensures { λ r. ⌜ foundOf r ≡ model.located (model.responseAt zoned (now (log .entry)) place) (model.lengthAt (now (log .entry)) place) ⌝ }
 {
     Found::At(place + header_length(log[place]), get2(log, place + 1))
 }

@@ -11,7 +11,7 @@ use Rattle.model.specs.Sizes.{cardSize, fuseAt}
 use Rattle.model.specs.Lists.{at, tab, stores}
 use Rattle.laws.specs.ListLaws.{tab-cong}
 use Rattle.model.specs.Volatile.{Volatile}
-use Rattle.model.specs.Command.{readZone, writeZone}
+use Rattle.model.specs.Instruction.{readZone, writeZone}
 use Rattle.model.specs.Access.{zoneReadable, zoneWritable}
 use Rattle.laws.specs.AccessLaws.{fuse-rule, zone-register, zone-written, zone-merged}
 use Rattle.laws.specs.ReadLaws.{zone-answer}

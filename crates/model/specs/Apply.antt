@@ -6,10 +6,10 @@ use lib.Dec.{eqb}
 use lib.ListN.{set}
 use Rattle.model.specs.Lists.{at, tab, sameList, stores}
 use Rattle.model.specs.Volatile.{Volatile, none, selector, idle, begun, granted, isBegun, selecting, activating, authenticating}
-use Rattle.model.specs.Command.{Command, reset, select, readZone, writeZone, readConfiguration, writeConfiguration, readFuses, writeFuses}
-use Rattle.model.specs.Command.{verifyPassword, beginAuthentication, verifyAuthentication}
+use Rattle.model.specs.Instruction.{Command, reset, select, readZone, writeZone, readConfiguration, writeConfiguration, readFuses, writeFuses}
+use Rattle.model.specs.Instruction.{verifyPassword, beginAuthentication, verifyAuthentication}
 use Rattle.model.specs.Device.{Device, spent}
-use Rattle.model.specs.Call.{Acted, Powered, Tried, acted, attempted, powered, silent, tried}
+use Rattle.model.specs.Call.{Acted, acted, tried}
 
 -- an attempts counter that stands full: $FF
 abbrev pub fullCounter : ℕ
@@ -51,33 +51,32 @@ module _ (D : Device) where
   password c k = tab (λ i. at c (D .passwordByte k i)) (D .passwordCount)
 
   -- the counter at a place, full again; and with one failed attempt more
-  abbrev pub filled : ℕ → List ℕ → Volatile → Tried Volatile
+  abbrev pub filled : ℕ → List ℕ → Volatile → Acted Volatile
   filled i c s = tried (set c i fullCounter) s (D .tries fullCounter)
 
-  abbrev pub counted : ℕ → List ℕ → Volatile → Tried Volatile
+  abbrev pub counted : ℕ → List ℕ → Volatile → Acted Volatile
   counted i c s = tried (set c i (spent D (at c i) .value)) s (spent D (at c i) .tries)
 
-  -- Kind 10. Locked: nothing changes, and whatever password was active stays so. Right: the counter is full again, and this
-  -- selector is the active one. Wrong: the counter counts, and no password is active. Zone, authentication and every other byte stay.
-  -- What the counter then leaves is handed out.
-  abbrev pub presented : Attempt → List ℕ → Volatile → ℕ → Tried Volatile
+  -- Kind 10. Locked: nothing changes, and whatever password was active stays so. Right: the counter is full again, and this selector is the active one.
+  -- Wrong: the counter counts, and no password is active. Zone, authentication and every other byte stay. What the counter then leaves is handed out.
+  abbrev pub presented : Attempt → List ℕ → Volatile → ℕ → Acted Volatile
   presented locked c s k = tried c s 0
   presented right c s k = filled (D .counterAt k) c (activating s (selector k))
   presented wrong c s k = counted (D .counterAt k) c (activating s none)
 
   -- Kind 11, by whether the counter is used up. If so, nothing changes; else the counter counts at once and authentication is
   -- begun. Zone, active password and every other byte stay. What the counter then leaves is handed out.
-  abbrev pub started : (used : Bool) → List ℕ → Volatile → Tried Volatile
+  abbrev pub started : (used : Bool) → List ℕ → Volatile → Acted Volatile
   started true c s = tried c s 0
   started false c s = counted (D .attemptsAt) c (authenticating s begun)
 
   -- Kind 12. Not begun: nothing changes. Accepted: the bytes are the new cryptogram, the counter is full again, authentication is
   -- granted. Denied: authentication is idle, and the card stays. Zone and active password stay in every case.
-  abbrev pub judged : Judgement → List ℕ → Volatile → List ℕ → Powered Volatile
-  judged notBegun c s xs = powered c s
+  abbrev pub judged : Judgement → List ℕ → Volatile → List ℕ → Acted Volatile
+  judged notBegun c s xs = acted c s []
   judged accepted c s xs =
-      powered (set (stores (λ i old new. new) (D .cryptogramCell) xs 0 c) (D .attemptsAt) fullCounter) (authenticating s granted)
-  judged denied c s xs = powered c (authenticating s idle)
+      acted (set (stores (λ i old new. new) (D .cryptogramCell) xs 0 c) (D .attemptsAt) fullCounter) (authenticating s granted) []
+  judged denied c s xs = acted c (authenticating s idle) []
 
   unfoldable pub apply : List ℕ → Volatile → Command → Acted Volatile
   -- 2: no password is active and authentication is idle; the zone and the card stay
@@ -96,6 +95,6 @@ module _ (D : Device) where
   -- 9: one more fuse is blown, for whom it is allowed; every other byte and the state stay
   apply c s writeFuses = acted (cond (D .mayBlow s) (set c (D .fuseAt) (D .blow (at c (D .fuseAt)))) c) s []
   -- 10 to 12, as said above
-  apply c s (verifyPassword k xs) = attempted (presented (attemptOf (eqb (at c (D .counterAt k)) 0) (sameList xs (password c k))) c s k)
-  apply c s beginAuthentication = attempted (started (eqb (at c (D .attemptsAt)) 0) c s)
-  apply c s (verifyAuthentication v xs) = silent (judged (judgementOf (isBegun (s .authentication)) v) c s xs)
+  apply c s (verifyPassword k xs) = presented (attemptOf (eqb (at c (D .counterAt k)) 0) (sameList xs (password c k))) c s k
+  apply c s beginAuthentication = started (eqb (at c (D .attemptsAt)) 0) c s
+  apply c s (verifyAuthentication v xs) = judged (judgementOf (isBegun (s .authentication)) v) c s xs

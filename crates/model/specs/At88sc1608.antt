@@ -1,5 +1,4 @@
--- The AT88SC1608 as a device: eight zones of 256 bytes, 128 configuration bytes, the fuse byte ("The card"), twelve staging bytes ("Writes
--- that survive a pulled card").
+-- The AT88SC1608 as a device: eight zones, the configuration, the fuse byte ("The card"), the staging bytes ("Writes that survive a pulled card").
 use Prim.Native.Nat.{ℕ, _+_, _-_, _*_, _/_, _%_}
 use mathlib.Core.Bool.{Bool, false, cond}
 use mathlib.Core.List.{List}
@@ -13,8 +12,7 @@ use Rattle.model.specs.Access.{zoneReadable, zoneWritable, zoneMerge, co
 
 -- ---- the map
 
--- where the configuration starts; in it the access registers at $10, the authentication attempts counter (AAC) at $20, the
--- cryptogram at $28
+-- where the configuration starts; in it the access registers at $10, the authentication attempts counter (AAC) at $20, the cryptogram at $28
 abbrev pub configurationAt : ℕ
 configurationAt = 2048
 

@@ -32,30 +32,16 @@ pub record Acted (S : Type 0) : Type 0 where
 abbrev pub acted : {S : Type 0} → List ℕ → S → List ℕ → Acted S
 acted c s answer = record { card = c; report = reporting s answer }
 
--- an act with no answer
-abbrev pub silent : {S : Type 0} → Powered S → Acted S
-silent m = acted (m .card) (m .state) []
-
--- what the use of a counter leaves: the card and the state, and the tries that the counter then has
-pub record Tried (S : Type 0) : Type 0 where
-  pub card : List ℕ
-  pub state : S
-  pub tries : ℕ
-
-abbrev pub tried : {S : Type 0} → List ℕ → S → ℕ → Tried S
-tried c s tries = record { card = c; state = s; tries = tries }
-
--- an act that hands out tries, with no answer
-abbrev pub attempted : {S : Type 0} → Tried S → Acted S
-attempted m = record { card = m .card; report = record { state = m .state; answer = []; tries = m .tries } }
+-- an act with no answer that used a counter, which then has so many tries left
+abbrev pub tried : {S : Type 0} → List ℕ → S → ℕ → Acted S
+tried c s tries = record { card = c; report = record { state = s; answer = []; tries = tries } }
 
 -- what a decoder finds at the front of some bytes: a refusal's number, or a command and the length of its record
 pub data Decoded (K : Type 0) : Type 0 where
   refused : ℕ → Decoded K
   whole : K → ℕ → Decoded K
 
--- what a call gives back: the refusal's number or 0, the kind that is answered, the response's length, the state, the tries left, the
--- whole response space
+-- what a call gives back: the refusal's number or 0, the kind answered, the response's length, the state, the tries left, the whole response space
 pub record Reply (S : Type 0) : Type 0 where
   pub refusal : ℕ
   pub kind : ℕ

@@ -1,9 +1,27 @@
--- What a record asks: a command of the card, or something about its power, about time, or a write that survives a loss of power ("What each
--- command does", "A card that is busy writing", "Writes that survive a pulled card"). Its kind is a number.
+-- What a record asks, in sixteen kinds: a command of the card, or something about its power, about time, or a write that survives a loss of
+-- power ("What each command does", "A card that is busy writing", "Writes that survive a pulled card"). Data bytes are a list.
 use Prim.Native.Nat.{ℕ}
+use mathlib.Core.Bool.{Bool}
 use mathlib.Core.List.{List}
-use Rattle.model.specs.Command.{Command, reset, select, readZone, writeZone, readConfiguration, writeConfiguration, readFuses, writeFuses}
-use Rattle.model.specs.Command.{verifyPassword, beginAuthentication, verifyAuthentication}
+
+-- what a card with power carries out
+pub data Command : Type 0 where
+  reset : Command
+  -- a zone
+  select : ℕ → Command
+  -- an address and how many bytes
+  readZone : ℕ → ℕ → Command
+  -- an address and the bytes
+  writeZone : ℕ → List ℕ → Command
+  readConfiguration : ℕ → ℕ → Command
+  writeConfiguration : ℕ → List ℕ → Command
+  readFuses : Command
+  writeFuses : Command
+  -- a selector and the bytes that are presented
+  verifyPassword : ℕ → List ℕ → Command
+  beginAuthentication : Command
+  -- the verdict and the next cryptogram
+  verifyAuthentication : Bool → List ℕ → Command
 
 pub data Instruction : Type 0 where
   powerCycle : Instruction

@@ -1,34 +1,31 @@
--- The model of the card, bottom up: definitions alone, and the paper's cases.
+-- The model of the card, bottom up: definitions alone.
+
+-- numbers, lists of bytes, the refusals
 pub mod Sizes
 pub mod Lists
 pub mod Numbers
 pub mod Bits
-pub mod Reversal
 pub mod Refusal
+-- what a card keeps beside its bytes, and what a record asks
 pub mod Volatile
-pub mod Command
+pub mod State
 pub mod Instruction
+-- what each of these does, for any device
 pub mod Device
 pub mod Call
 pub mod Apply
 pub mod Cells
 pub mod Staging
 pub mod Busy
+pub mod Act
+-- the AT88SC1608
 pub mod Access
 pub mod At88sc1608
+-- records, the single command, the log, sessions and how one is written
 pub mod Record
 pub mod Single
 pub mod Reader
 pub mod Log
+pub mod LogCheck
 pub mod Session
 pub mod Writer
-pub mod Computed
-pub mod Trials
-pub mod Cases
-pub mod Mistakes
-pub mod Attempts
-pub mod ClosedBytes
-pub mod BusyCards
-pub mod NamedZones
-pub mod WrittenSessions
-pub mod TornWrites

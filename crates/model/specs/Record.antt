@@ -7,9 +7,8 @@ use lib.Dec.{ltb, leb, eqb}
 use lib.ListN.{length, take, drop, getD}
 use Rattle.model.specs.Lists.{at}
 use Rattle.model.specs.Call.{Decoded, refused, whole}
-use Rattle.model.specs.Command.{reset, select, readZone, writeZone, readConfiguration, writeConfiguration, readFuses, writeFuses}
-use Rattle.model.specs.Command.{verifyPassword, beginAuthentication, verifyAuthentication}
-use Rattle.model.specs.Instruction.{Instruction, powerCycle, issue, wait, poll, writeStaged, arm}
+use Rattle.model.specs.Instruction.{reset, select, readZone, writeZone, readConfiguration, writeConfiguration, readFuses, writeFuses, verifyPassword}
+use Rattle.model.specs.Instruction.{beginAuthentication, verifyAuthentication, Instruction, powerCycle, issue, wait, poll, writeStaged, arm}
 use Rattle.model.specs.Refusal.{unknownKind, fieldOutOfRange, cutShort}
 
 -- ---- the kinds

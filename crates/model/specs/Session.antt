@@ -8,7 +8,7 @@ use Rattle.model.specs.Sizes.{cardSize, fuseAt, trailerSize, leastSessio
 use Rattle.model.specs.Lists.{at}
 use Rattle.model.specs.Numbers.{numberAt}
 use Rattle.model.specs.Instruction.{Instruction, kindOf}
-use Rattle.model.specs.Busy.{State, powerOn}
+use Rattle.model.specs.State.{State, powerOn}
 use Rattle.model.specs.Call.{Powered, powered, Decoded, refused, whole}
 use Rattle.model.specs.Refusal.{sessionLength, sessionTrailer, startOutOfRange, tooManyRecords, fuseByte, stagingBytes, bytesLeft, noSpace}
 use Rattle.model.specs.Log.{Entry, zoned, headerLength, logBytes}

@@ -7,16 +7,16 @@ use lib.Dec.{ltb, leb, eqb}
 use lib.ListN.{length}
 use Rattle.model.specs.Lists.{at}
 use Rattle.model.specs.Volatile.{Volatile, Active, none, selector}
-use Rattle.model.specs.Command.{Command}
-use Rattle.model.specs.Instruction.{Instruction}
+use Rattle.model.specs.Instruction.{Command, Instruction}
 use Rattle.model.specs.Device.{Device}
 use Rattle.model.specs.Refusal.{cardLength, fuseByte, stagingBytes, stateOutOfRange}
 use Rattle.model.specs.Call.{Call, Called, Decoded, Powered, Reply}
 use Rattle.model.specs.Call as calls
 use Rattle.model.specs.Apply as any
 use Rattle.model.specs.Staging as any-staging
-use Rattle.model.specs.Busy.{State, writeTime}
+use Rattle.model.specs.State.{State, writeTime}
 use Rattle.model.specs.Busy as any-busy
+use Rattle.model.specs.Act as any-act
 use Rattle.model.specs.At88sc1608.{at88sc1608}
 use Rattle.model.specs.Record.{decode}
 
@@ -53,10 +53,10 @@ abbrev pub apply : List ℕ → Volatile → Command → calls.Acted Volatile
 apply = any.apply at88sc1608
 
 abbrev pub perform : List ℕ → State → Instruction → calls.Acted State
-perform = any-busy.perform at88sc1608
+perform = any-act.perform at88sc1608
 
 abbrev pub act : List ℕ → State → Instruction → calls.Acted State
-act = any-busy.act at88sc1608
+act = any-act.act at88sc1608
 
 -- the kind that is answered, and logged
 abbrev pub answeredKind : List ℕ → State → Instruction → ℕ

@@ -35,7 +35,3 @@ mostRecords = 4096
 -- the longest title that the session writer takes
 abbrev pub mostTitle : ℕ
 mostTitle = 255
-
--- the log space of the printing program
-abbrev pub printingSpace : ℕ
-printingSpace = 65536

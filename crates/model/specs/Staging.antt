@@ -8,6 +8,7 @@ use lib.ListN.{length}
 use Rattle.model.specs.Lists.{at, tab}
 use Rattle.model.specs.Cells.{Cell, cell, row, torn}
 use Rattle.model.specs.Volatile.{Volatile}
+use Rattle.model.specs.State.{Tear, untorn, tearAfter}
 use Rattle.model.specs.Device.{Device}
 use Rattle.model.specs.Apply.{rules}
 
@@ -17,11 +18,6 @@ idleFlag = 0xFF
 
 abbrev pub readyFlag : ℕ
 readyFlag = 0xFE
-
--- what is armed: nothing, or a tear after so many cell writes that leaves a junk byte
-pub data Tear : Type 0 where
-  untorn : Tear
-  tearAfter : ℕ → ℕ → Tear
 
 module _ (D : Device) where
   -- ---- the staging bytes
@@ -72,8 +68,6 @@ module _ (D : Device) where
   -- those that finish the write that a card has staged
   abbrev pub pendingCells : List ℕ → List Cell
   pendingCells c = finishCells (stagedZone c) (stagedAddress c) (stagedValues c)
-
-  -- ---- a tear
 
   -- the cell at which the power is lost holds the junk; of the flag bit 0 alone is the junk's
   abbrev pub spoilt : ℕ → Cell → Cell

@@ -1,1 +1,1 @@
-// The model of the card: definitions and their laws, all of it in specs/. There is no code here.
+// The model of the card: definitions, all of it in specs/. There is no code here.

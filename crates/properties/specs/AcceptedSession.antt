@@ -7,12 +7,13 @@ use lib.ListN.{length, take, drop, getD}
 use Rattle.model.specs.Sizes.{cardSize, leastLog}
 use Rattle.model.specs.Lists.{at}
 use Rattle.model.specs.Numbers.{bytesOf}
-use Rattle.model.specs.Busy.{State}
+use Rattle.model.specs.State.{State}
 use Rattle.model.specs.Instruction.{Instruction, poll}
 use Rattle.model.specs.Call.{Powered, Called, replying}
 use Rattle.model.specs.Reader.{recordsEnd, partAt}
 use Rattle.model.specs.Record.{recordLength}
-use Rattle.model.specs.Log.{Entry, placeOf}
+use Rattle.model.specs.Log.{Entry}
+use Rattle.model.specs.LogCheck.{placeOf}
 use Rattle.model.specs.Session.{startOf, countOf, frame, all, readFrom, endOf, initial, fullEntries, Ran}
 
 -- ---- the session

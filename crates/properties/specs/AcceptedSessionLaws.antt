@@ -11,7 +11,7 @@ use lib.Seq.{length-take-le, getD-take}
 use Rattle.model.specs.Sizes.{cardSize, fuseAt, trailerSize, leastSession, greatestSession, leastLog, mostRecords}
 use Rattle.model.specs.Lists.{at}
 use Rattle.laws.specs.BoolLaws.{and-left, and-right}
-use Rattle.model.specs.Busy.{powerOn}
+use Rattle.model.specs.State.{powerOn}
 use Rattle.model.specs.Instruction.{Instruction}
 use Rattle.model.specs.Call.{Decoded, refused, whole}
 use Rattle.laws.specs.CallLaws.{clear}

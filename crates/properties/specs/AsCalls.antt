@@ -6,7 +6,7 @@ use mathlib.Core.Path.{_≡_, refl, ap, subst, _∙_}
 use native.Mathlib.Omega.{arith}
 use lib.ListN.{take, replicate, length-take, length-replicate}
 use lib.Seq.{take-append-seam}
-use Rattle.model.specs.Busy.{State}
+use Rattle.model.specs.State.{State}
 use Rattle.model.specs.Instruction.{Instruction}
 use Rattle.model.specs.At88sc1608.{at88sc1608}
 use Rattle.model.specs.Call.{Powered, Reply, Call, calling, whole, admit, step, carried}

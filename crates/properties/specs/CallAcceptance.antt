@@ -5,7 +5,7 @@ use mathlib.Core.List.{List}
 use mathlib.Core.Logic.{_↔_}
 use mathlib.Core.Path.{_≡_}
 use lib.ListN.{length}
-use Rattle.model.specs.Busy.{State}
+use Rattle.model.specs.State.{State}
 use Rattle.model.specs.Instruction.{Instruction}
 use Rattle.model.specs.At88sc1608.{at88sc1608}
 use Rattle.model.specs.Call.{powered, calling, whole}
@@ -31,7 +31,7 @@ module _ (c : List ℕ) (s : State) (bytes space : List ℕ) where
   -- Where none applies, the bytes are the record of an instruction k, whole. The call leaves the card and the state that k leaves in a
   -- session's run at this card and this state, reached or not; its kind and its response are those that are logged there, the response
   -- at the front of the space, whose other bytes are kept. What it hands out are the tries left on the card that it leaves, of the
-  -- counter that k used, and 0 where a busy card ignored it.
+  -- counter that k used, and 0 where the card ignored it, being busy or off or having a write to finish.
   pub call-does : NoneApplies (callConditions c s bytes space)
       → (k : Instruction) × (decode bytes ≡ whole k (length bytes))
       × (command c s (calling bytes space)

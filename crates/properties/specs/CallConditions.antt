@@ -8,7 +8,8 @@ use lib.ListN.{length}
 use Rattle.model.specs.Sizes.{cardSize, fuseAt, flagAt}
 use Rattle.model.specs.Lists.{at}
 use Rattle.model.specs.Volatile.{Active, none, selector}
-use Rattle.model.specs.Busy.{State, isBusy, actsAlways, actsBusy}
+use Rattle.model.specs.State.{State, isBusy}
+use Rattle.model.specs.Busy.{actsAlways, actsBusy}
 use Rattle.model.specs.Record.{recordLength}
 use Rattle.model.specs.Refusal.{cardLength, fuseByte, stagingBytes, stateOutOfRange, bytesLeft, noSpace}
 use Rattle.model.specs.Single.{isFuseByte}

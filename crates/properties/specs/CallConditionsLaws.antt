@@ -11,7 +11,8 @@ use lib.ListN.{length}
 use Rattle.model.specs.Sizes.{flagAt}
 use Rattle.model.specs.Lists.{at}
 use Rattle.model.specs.Volatile.{Active, none, selector}
-use Rattle.model.specs.Busy.{State, isBusy, actsAlways, actsBusy}
+use Rattle.model.specs.State.{State, isBusy}
+use Rattle.model.specs.Busy.{actsAlways, actsBusy}
 use Rattle.model.specs.Instruction.{Instruction}
 use Rattle.model.specs.At88sc1608.{at88sc1608}
 use Rattle.model.specs.Call.{powered, Decoded, refused, whole, calling, checked, exact}

@@ -6,13 +6,13 @@ use native.Mathlib.Nat.{le-of-suc-le-suc}
 use native.Mathlib.Omega.{arith}
 use lib.ListN.{length, length-take}
 use Rattle.model.specs.Lists.{Bytes}
-use Rattle.model.specs.Busy.{State}
+use Rattle.model.specs.State.{State}
 use Rattle.model.specs.Instruction.{Instruction}
 use Rattle.model.specs.At88sc1608.{at88sc1608}
 use Rattle.model.specs.Call.{Powered, calling, whole}
 use Rattle.laws.specs.BusyLaws.{triesGiven}
 use Rattle.laws.specs.CallLaws.{Admitted, carried-out}
-use Rattle.model.specs.Log.{find, answerIn}
+use Rattle.model.specs.LogCheck.{find, answerIn}
 use Rattle.model.specs.Reader.{recordsEnd, partAt, nextOf}
 use Rattle.model.specs.Record.{recordLength, decode}
 use Rattle.laws.specs.RecordLaws.{Ranged, accepted, decode-front}

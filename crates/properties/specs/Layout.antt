@@ -20,7 +20,7 @@ use Rattle.model.specs.At88sc1608.{at88sc1608}
 use Rattle.laws.specs.StagingLaws.{staging-same}
 use Rattle.model.specs.Refusal.{notALog}
 use Rattle.model.specs.Log.{Ending, zoned, Entry, headerBytes, headerLength, entryBytes, entriesBytes, logTrailer, AllFit, LaidOut}
-use Rattle.model.specs.Log.{countOf, offsetOf, lengthAt, responseAt, nextEntry, entryOk, entriesOk, trailerOk, validAs, valid, find, missing}
+use Rattle.model.specs.LogCheck.{countOf, offsetOf, lengthAt, responseAt, nextEntry, entryOk, entriesOk, trailerOk, validAs, valid, find, missing}
 use Rattle.properties.specs.LogLaws.{Entered, entered, Trailed, trailed}
 use Rattle.properties.specs.Written.{written-well}
 
@@ -175,6 +175,15 @@ exactly-as E l b = (λ v. (entriesOf E l b v, cardOf E l b v, laid-out E l b v),
 
 pub exactly : (l : List ℕ) → Bytes l → (valid l ≡ true) ↔ ((es : List Entry) × (card : List ℕ) × LaidOut zoned es card l)
 exactly = exactly-as zoned
+
+-- bytes that are laid out in no way are no log
+pub not-laid : (l : List ℕ) → Bytes l → ((es : List Entry) (card : List ℕ) → LaidOut zoned es card l → ⊥) → (k : ℕ) → find l k ≡ missing notALog
+unfolding find
+not-laid l b none k = go (valid l) refl
+  where
+    go : (t : Bool) → valid l ≡ t → find l k ≡ missing notALog
+    go true e = let w = exactly l b .0 e in absurd (none (w .0) (w .1) (w .2))
+    go false e = rw e
 
 -- no other last byte is taken
 pub ending-other : (l : List ℕ) (k : ℕ) → (at l (length l - 1) ≡ 0x50 → ⊥) → find l k ≡ missing notALog

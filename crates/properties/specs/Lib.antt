@@ -14,9 +14,12 @@ pub mod SessionAcceptance
 pub mod CallAcceptance
 pub mod Refused
 pub mod OneCommand
+pub mod HeededCommands
 pub mod LogReading
 pub mod TriesLeft
 pub mod ClosedReads
+pub mod StoredBytes
+pub mod SecurityOutcomes
 pub mod PasswordWords
 pub mod BusyTimes
 pub mod SessionSecrecy
@@ -28,6 +31,8 @@ pub mod AcceptedSessionLaws
 pub mod Edges
 pub mod RefusedLaws
 pub mod TriesLaws
+pub mod ClosedReadsLaws
+pub mod StoredBytesLaws
 pub mod BusyTimesLaws
 pub mod ConditionsLaws
 pub mod SessionConditionsLaws
@@ -44,5 +49,8 @@ pub mod Alike
 pub mod SessionSecrecyLaws
 -- of the session writer
 pub mod WriterConditionsLaws
-pub mod SurvivalLaws
 pub mod SessionPartsLaws
+-- of staged writes
+pub mod SurvivalLaws
+pub mod TearLaws
+pub mod FinishingLaws

@@ -11,8 +11,9 @@ use lib.ListN.{length, drop}
 use Rattle.model.specs.Sizes.{fuseAt, leastLog, mostRecords}
 use Rattle.model.specs.Lists.{at}
 use Rattle.laws.specs.BoolLaws.{and-left, and-right}
-use Rattle.model.specs.Log.{Ending, zoned, entryFits, zoneFits, lengthAt, responseAt, nextEntry, entryOk, entriesOk, entryPlace}
-use Rattle.model.specs.Log.{countOf, offsetOf, trailerOk, validAs, valid, placeOf, find, located, missing}
+use Rattle.model.specs.Log.{Ending, zoned, entryFits, zoneFits}
+use Rattle.model.specs.LogCheck.{lengthAt, responseAt, nextEntry, entryOk, entriesOk, entryPlace, countOf, offsetOf, trailerOk, validAs, valid, placeOf, find}
+use Rattle.model.specs.LogCheck.{located, missing}
 use Rattle.model.specs.Refusal.{notALog, noSuchAnswer}
 use Rattle.model.specs.Single.{isFuseByte, stagingFits}
 

@@ -1,6 +1,6 @@
 -- The log reader accepts exactly the paper's layout, and the log of an accepted session reads back: every
 -- answer that was written, its kind and its zone, and the final card ("Session and log", "The zone named in the log").
-use Prim.Native.Nat.{ℕ, _-_, _≤_, _<_}
+use Prim.Native.Nat.{ℕ, _+_, _-_, _≤_, _<_}
 use mathlib.Core.Bool.{true}
 use mathlib.Core.List.{List}
 use mathlib.Core.Logic.{_↔_}
@@ -9,19 +9,20 @@ use lib.ListN.{length, take, drop}
 use Rattle.model.specs.Sizes.{cardSize}
 use Rattle.model.specs.Lists.{at, Bytes}
 use Rattle.model.specs.At88sc1608.{at88sc1608}
-use Rattle.model.specs.Busy.{State}
+use Rattle.model.specs.State.{State}
 use Rattle.model.specs.Call.{Powered}
 use Rattle.model.specs.Instruction.{Instruction, kindOf}
 use Rattle.laws.specs.EntryLaws.{answered-names, named-keeps}
-use Rattle.model.specs.Log.{Ending, zoned, namesZone, Entry, entryBytes, Fits, LaidOut, validAs, valid, find, missing, answerIn}
-use Rattle.model.specs.Log as log
+use Rattle.model.specs.Log.{Ending, zoned, namesZone, Entry, headerLength, entryBytes, entriesBytes, Fits, LaidOut}
+use Rattle.model.specs.LogCheck.{validAs, valid, find, missing, located, answerIn}
+use Rattle.model.specs.LogCheck as log
 use Rattle.model.specs.Refusal.{notALog, noSuchAnswer}
 use Rattle.model.specs.Single.{answeredKind}
-use Rattle.model.specs.Session.{countOf, logged, after, endOf, initial, logOf}
+use Rattle.model.specs.Session.{countOf, logged, after, entriesOf, endOf, initial, logOf}
 use Rattle.properties.specs.AcceptedSession.{Accepts, instructionAt, reached, kindIn, zoneIn, entryOf}
-use Rattle.properties.specs.Written.{entry-most, written-answer, written-kind, written-zone}
-use Rattle.properties.specs.Layout.{exactly-as, exactly, ending-other}
-use Rattle.properties.specs.ReadBack.{ending-back, valid-back, count-back, kind-back, zone-back, answer-back, none-back, card-back}
+use Rattle.properties.specs.Written.{entry-most, count-is, written-found, written-answer, written-kind, written-zone, written-none, written-card}
+use Rattle.properties.specs.Layout.{exactly-as, exactly, not-laid, ending-other}
+use Rattle.properties.specs.ReadBack.{ending-back, valid-back, count-back, kind-back, zone-back, found-back, answer-back, none-back, card-back}
 
 -- a log of bytes is accepted exactly when it is the writing of some entries within the limits, a card and the trailer
 pub accepted-iff : (l : List ℕ) → Bytes l → (valid l ≡ true) ↔ ((es : List Entry) × (card : List ℕ) × LaidOut zoned es card l)
@@ -31,6 +32,10 @@ accepted-iff = exactly
 pub accepted-as-iff : (E : Ending) (l : List ℕ) → Bytes l → (validAs E l ≡ true) ↔ ((es : List Entry) × (card : List ℕ) × LaidOut E es card l)
 accepted-as-iff = exactly-as
 
+-- bytes that are laid out in no way get 13, whatever answer is asked for
+pub unlaid : (l : List ℕ) → Bytes l → ((es : List Entry) (card : List ℕ) → LaidOut zoned es card l → ⊥) → (k : ℕ) → find l k ≡ missing notALog
+unlaid = not-laid
+
 -- whatever ends in another byte than $50 gets 13
 pub other-ending : (l : List ℕ) (k : ℕ) → (at l (length l - 1) ≡ 0x50 → ⊥) → find l k ≡ missing notALog
 other-ending = ending-other
@@ -39,9 +44,26 @@ other-ending = ending-other
 pub entry-at-most : (E : Ending) (e : Entry) → Fits E e → length (entryBytes E e) ≤ 260
 entry-at-most = entry-most
 
--- of a log that is laid out so: answer k is the response of entry k, and its kind and its zone, where it is named,
--- are those of entry k
+-- of a log that is laid out so
+module _ (es : List Entry) (card l : List ℕ) (w : LaidOut zoned es card l) where
+  -- it counts its entries
+  pub laid-count : log.countOf l ≡ length es
+  laid-count = count-is zoned es card l w
+
+  -- past the last entry every answer gets 14
+  pub laid-none : (k : ℕ) → length es ≤ k → find l k ≡ missing noSuchAnswer
+  laid-none = written-none es card l w
+
+  -- its card is the one that was laid out
+  pub laid-card : take cardSize (drop (log.offsetOf l) l) ≡ card
+  laid-card = written-card zoned es card l w
+
+-- and of its answer k: it is the response of entry k, and its kind and its zone, where it is named, are those of entry k
 module _ (es : List Entry) (card l : List ℕ) (w : LaidOut zoned es card l) (k : ℕ) (h : k < length es) where
+  -- it is found, behind the entries before it and its own header, with the length of that response: no answer that there is gets 13 or 14
+  pub laid-found : find l k ≡ located (length (entriesBytes zoned (take k es)) + headerLength zoned (entryOf es k .kind)) (length (entryOf es k .response))
+  laid-found = written-found es card l w k h
+
   pub laid-answer : answerIn l (find l k) ≡ entryOf es k .response
   laid-answer = written-answer es card l w k h
 
@@ -71,6 +93,14 @@ module _ (s space : List ℕ) (ks : List Instruction) (bytes : Bytes s) (a : Acc
   -- the log has as many answers as the session has records
   pub log-count : log.countOf (logOf s ks) ≡ countOf s
   log-count = count-back s space ks bytes a
+
+  -- answer k is found, behind the entries before it and its own header
+  pub log-found : (k : ℕ) → k < countOf s
+      → find (logOf s ks) k
+      ≡ located
+      (length (entriesBytes zoned (take k (entriesOf ks (initial s)))) + headerLength zoned (logged (reached ks (initial s) k) (instructionAt ks k) .kind))
+      (length (logged (reached ks (initial s) k) (instructionAt ks k) .response))
+  log-found = found-back s space ks bytes a
 
   -- answer k is the response of record k
   pub log-answer : (k : ℕ) → k < countOf s

@@ -11,18 +11,19 @@ use lib.ListN.{length, take, drop, List·getD-eq-default, length-take}
 use lib.Seq.{getD-take, getD-drop}
 use Rattle.model.specs.Sizes.{cardSize}
 use Rattle.model.specs.Lists.{at, Bytes}
-use Rattle.model.specs.Busy.{State}
+use Rattle.model.specs.State.{State}
 use Rattle.model.specs.Instruction.{Instruction}
 use Rattle.model.specs.Call.{Powered}
-use Rattle.model.specs.Log.{zoned, namesZone, Entry, LaidOut, valid, find, missing, answerIn}
-use Rattle.model.specs.Log as log
+use Rattle.model.specs.Log.{zoned, namesZone, Entry, headerLength, entriesBytes, LaidOut}
+use Rattle.model.specs.LogCheck.{valid, find, missing, located, answerIn}
+use Rattle.model.specs.LogCheck as log
 use Rattle.model.specs.Reader.{recordsEnd, partAt}
 use Rattle.laws.specs.RecordLaws.{Ranged, decode-ranged}
 use Rattle.model.specs.Refusal.{noSuchAnswer}
 use Rattle.laws.specs.Sane.{Good}
 use Rattle.model.specs.Session.{startOf, countOf, logged, after, entriesOf, endOf, logOf, initial}
 use Rattle.properties.specs.Written.{count-is, written-ending, written-valid, written-kind, written-zone, written-answer, written-none}
-use Rattle.properties.specs.Written.{written-card}
+use Rattle.properties.specs.Written.{written-found, written-card}
 use Rattle.properties.specs.SessionLaws.{Logs, decode-logs, Readings, readings, end-good, entries-length, entries-fit}
 use Rattle.properties.specs.AcceptedSession.{Accepts, reached, instructionAt, kindIn, zoneIn, entryOf}
 use Rattle.properties.specs.AcceptedSessionLaws.{Framed, framed-well, card-good}
@@ -99,6 +100,13 @@ module _ (s space : List ℕ) (ks : List Instruction) (bytes : Bytes s) (a : Acc
 
     pub answer-back : answerIn (logOf s ks) (find (logOf s ks) k) ≡ logged (reached ks (initial s) k) (instructionAt ks k) .response
     answer-back = written-answer es card (logOf s ks) laid-out k counted ∙ ap (λ (e : Entry). e .response) entry-back
+
+    pub found-back : find (logOf s ks) k
+        ≡ located (length (entriesBytes zoned (take k es)) + headerLength zoned (logged (reached ks (initial s) k) (instructionAt ks k) .kind))
+        (length (logged (reached ks (initial s) k) (instructionAt ks k) .response))
+    found-back =
+        written-found es card (logOf s ks) laid-out k counted
+        ∙ ap (λ (e : Entry). located (length (entriesBytes zoned (take k es)) + headerLength zoned (e .kind)) (length (e .response))) entry-back
 
     pub kind-back : kindIn (logOf s ks) k ≡ logged (reached ks (initial s) k) (instructionAt ks k) .kind
     kind-back = written-kind es card (logOf s ks) laid-out k counted ∙ ap (λ (e : Entry). e .kind) entry-back

@@ -14,7 +14,7 @@ use Rattle.model.specs.Record.{decode}
 use Rattle.model.specs.Refusal.{bytesLeft, noSpace}
 use Rattle.model.specs.Session.{startOf, countOf, frame, Read, stopped, all, readFrom, logOf, rejected, written, ended, framed, run}
 use Rattle.model.specs.Single.{check, answeredKind, act, admit, command}
-use Rattle.model.specs.Busy.{State}
+use Rattle.model.specs.State.{State}
 use Rattle.model.specs.Writer.{Parts, sessionBytes, partsRefusal, placed, writeSession}
 use Rattle.properties.specs.AcceptedSession.{accepting}
 

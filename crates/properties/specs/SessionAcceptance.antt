@@ -1,5 +1,5 @@
 -- A session is accepted exactly when no refusal number applies, and a refused one gets the first that applies; an accepted one gives
--- back and leaves the log of its records. Then the edges: 2,185 bytes without records log 2,185 bytes; fewer give 1.
+-- back and leaves the log of its records. Then the edges: 2,197 bytes without records log 2,197 bytes; fewer give 1.
 use Prim.Native.Nat.{ℕ, _≤_, _<_}
 use mathlib.Core.Bool.{true}
 use mathlib.Core.List.{List, _++_}

@@ -9,7 +9,8 @@ use lib.Dec.{ltb, leb, eqb}
 use lib.ListN.{length, take, drop, length-append}
 use Rattle.model.specs.Lists.{at, Bytes}
 use Rattle.laws.specs.BoolLaws.{and-left, and-right}
-use Rattle.model.specs.Busy.{State, ignores}
+use Rattle.model.specs.State.{State}
+use Rattle.model.specs.Busy.{ignores}
 use Rattle.model.specs.Instruction.{Instruction, kindOf}
 use Rattle.model.specs.Call.{Powered, Decoded, refused, whole}
 use Rattle.model.specs.At88sc1608.{at88sc1608}

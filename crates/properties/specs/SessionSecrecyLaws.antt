@@ -10,15 +10,13 @@ use lib.ListN.{length, drop, length-append, length-take, List·getD-append, List
 use lib.Seq.{getD-append-add, length-take-le, getD-take}
 use Rattle.model.specs.Sizes.{cardSize, fuseAt, leastLog}
 use Rattle.model.specs.Lists.{at}
-use Rattle.model.specs.Command.{Command}
-use Rattle.model.specs.Instruction.{Instruction}
+use Rattle.model.specs.Instruction.{Command, Instruction}
 use Rattle.model.specs.Device.{counterPlace}
 use Rattle.model.specs.At88sc1608.{at88sc1608}
 use Rattle.model.specs.Access.{rpe, ate, passwordSet}
 use Rattle.model.specs.Call.{Call, Powered}
 use Rattle.model.specs.Record.{decode}
-use Rattle.model.specs.Staging.{untorn}
-use Rattle.model.specs.Busy.{State}
+use Rattle.model.specs.State.{untorn, State}
 use Rattle.model.specs.Log.{Entry, zoned, entriesBytes, logTrailer, logBytes}
 use Rattle.model.specs.Reader.{recordsEnd}
 use Rattle.model.specs.Refusal.{bytesLeft, noSpace}

@@ -7,9 +7,8 @@ use mathlib.Core.Path.{_≡_}
 use lib.Dec.{leb}
 use Rattle.model.specs.Sizes.{leastLog}
 use Rattle.model.specs.Lists.{at}
-use Rattle.model.specs.Busy.{State}
-use Rattle.model.specs.Command.{Command}
-use Rattle.model.specs.Instruction.{Instruction}
+use Rattle.model.specs.State.{State}
+use Rattle.model.specs.Instruction.{Command, Instruction}
 use Rattle.model.specs.Device.{Counter, counterPlace}
 use Rattle.model.specs.At88sc1608.{at88sc1608}
 use Rattle.model.specs.Call.{Powered}

@@ -12,18 +12,18 @@ use Rattle.model.specs.Sizes.{cardSize, flagAt}
 use Rattle.model.specs.Lists.{at, stores}
 use Rattle.model.specs.Cells.{Cell, writeCells}
 use Rattle.model.specs.Volatile.{Volatile}
-use Rattle.model.specs.Command.{writeZone}
-use Rattle.model.specs.Instruction.{Instruction, powerCycle, issue, wait, poll, writeStaged, arm, kindOf}
+use Rattle.model.specs.Instruction.{writeZone, Instruction, powerCycle, issue, wait, poll, writeStaged, arm, kindOf}
 use Rattle.model.specs.Access.{zoneWritable}
 use Rattle.model.specs.At88sc1608.{at88sc1608, zoneCell, mayWrite, fuses, registerOf}
 use Rattle.laws.specs.AccessLaws.{zone-written}
 use Rattle.laws.specs.Loops.{stores-kept}
 use Rattle.model.specs.Apply.{rules, kept}
 use Rattle.model.specs.Apply as any
-use Rattle.model.specs.Staging.{idleFlag, readyFlag, Tear, untorn, isReady, mayStage, finalValues, finishCells, stageCells, pendingCells, tearsIn}
-use Rattle.model.specs.Staging.{cellsUnder}
-use Rattle.model.specs.Busy.{State, powerOn, powerLost, writeTime, actsAlways, laid, cycled, staged, ignores}
-use Rattle.model.specs.Busy as any-busy
+use Rattle.model.specs.Staging.{idleFlag, readyFlag, isReady, mayStage, finalValues, finishCells, stageCells, pendingCells, tearsIn, cellsUnder}
+use Rattle.model.specs.State.{Tear, untorn, State, powerOn, powerLost, writeTime, isBusy}
+use Rattle.model.specs.Busy.{actsAlways, isHalted, ignores}
+use Rattle.model.specs.Act.{laid, cycled, staged}
+use Rattle.model.specs.Act as any-act
 use Rattle.model.specs.Call.{Call, Powered, Acted, whole, step, final}
 use Rattle.model.specs.Call as calls
 use Rattle.model.specs.Record.{decode}
@@ -89,7 +89,7 @@ module _ (c : List ℕ) (size : length c ≡ cardSize) (z a : ℕ) (vs : List �
 
   -- off, every instruction keeps what is known
   off-keeps : (d : List ℕ) (s : State) (i : Instruction) → s .off ≡ true → Kept d s → Kept (act d s i .card) (act d s i .report .state)
-  unfolding any-busy.perform
+  unfolding any-act.perform
   off-keeps d s i off k = either-way at88sc1608 (λ m. Kept (m .card) (m .report .state)) d s i (λ e. k) (λ e. go i e)
     where
       ignored : (i : Instruction) → ignores at88sc1608 d s i ≡ false → actsAlways (kindOf i) ≡ false
@@ -138,15 +138,15 @@ module _ (m : Powered State) (a : ℕ) (xs : List ℕ) (good : Good (m .card) (m
   values-few : length vs ≤ 8
   values-few = rw (length-tab _ (length xs)) few
 
-  halted : any-busy.isHalted at88sc1608 (m .card) (m .state) ≡ false
+  halted : isHalted at88sc1608 (m .card) (m .state) ≡ false
   halted = rw (writes .on, writes .idle)
 
-  quiet : any-busy.isBusy (m .state) ≡ false
+  quiet : isBusy (m .state) ≡ false
   quiet = rw (writes .ready)
 
   -- what it does
   staged-is : act (m .card) (m .state) (writeStaged a xs) ≡ staged at88sc1608 true (m .card) (m .state) a xs
-  unfolding any-busy.perform
+  unfolding any-act.perform
   staged-is =
       act-performed at88sc1608 (m .card) (m .state) (writeStaged a xs) (heeded at88sc1608 (m .card) (m .state) (writeStaged a xs) halted quiet)
       ∙ ap (λ (t : Bool). staged at88sc1608 t (m .card) (m .state) a xs) (writes .may)
@@ -158,6 +158,9 @@ module _ (m : Powered State) (a : ℕ) (xs : List ℕ) (good : Good (m .card) (m
       (staging.staged at88sc1608 stageable z a vs values-few (m .card) (good .fit .long)
       (fits-idle at88sc1608 (m .card) (good .fit .staging) (writes .idle)) (m .state .tear))
       (staged-idle at88sc1608 (m .state .tear) (m .card) (let l = good .fit .long in omega arith) z a vs))
+
+  pub write-leaves : Torn at88sc1608 (m .card) z a vs (after m (writeStaged a xs) .card)
+  write-leaves = start-kept .torn
 
   pub run-survives : (ks : List Instruction) → OffThenOn ks (after m (writeStaged a xs))
       → Survived (m .card) z a vs (endOf ks (after m (writeStaged a xs)) .card)
@@ -267,15 +270,15 @@ module _ (c : List ℕ) (s : State) (a : ℕ) (xs : List ℕ) (good : Good c s) 
   -- both on a card that is on, not busy and has nothing to finish
   module _ (on : s .off ≡ false) (idle : isReady at88sc1608 c ≡ false) (ready : s .busy ≡ 0)
       (whole : tearsIn (s .tear) (length (stageCells at88sc1608 zone a finals)) ≡ false) where
-    halted-not : any-busy.isHalted at88sc1608 c s ≡ false
+    halted-not : isHalted at88sc1608 c s ≡ false
     halted-not = rw (on, idle)
 
     staged-does : act c s (writeStaged a xs) ≡ staged at88sc1608 (mayStage at88sc1608 c (s .volatile) a) c s a xs
-    unfolding any-busy.perform
+    unfolding any-act.perform
     staged-does = act-performed at88sc1608 c s (writeStaged a xs) (heeded at88sc1608 c s (writeStaged a xs) halted-not (rw ready))
 
     fifth-does : act c s (issue (writeZone a xs)) .card ≡ fifth
-    unfolding any-busy.perform any.apply
+    unfolding any-act.perform any.apply
     fifth-does = ap (λ (m : Acted State). m .card) (act-performed at88sc1608 c s (issue (writeZone a xs)) (heeded at88sc1608 c s (issue (writeZone a xs))
         halted-not (rw ready)))
 
@@ -297,7 +300,7 @@ module _ (c : List ℕ) (s : State) (a : ℕ) (xs : List ℕ) (good : Good c s) 
 -- ---- the power comes back
 
 pub power-returns : (c : List ℕ) (s : State) → s .tear ≡ untorn → act c s powerCycle .report .state .off ≡ false
-unfolding any-busy.perform
+unfolding any-act.perform
 power-returns c s e =
     ap (λ (m : Acted State). m .report .state .off) (act-performed at88sc1608 c s powerCycle (never-ignored at88sc1608 c s powerCycle refl))
     ∙ go (isReady at88sc1608 c)

@@ -1,16 +1,16 @@
 -- Of the tries left: the 1 bits of a byte; and what an accepted call hands out is what its counter leaves on the card.
-use Prim.Native.Nat.{ℕ, suc, _≤_, _<_}
+use Prim.Native.Nat.{ℕ, suc, _-_, _≤_, _<_}
 use mathlib.Core.List.{List}
 use mathlib.Core.Logic.{_↔_}
 use mathlib.Core.Path.{_≡_, refl, ap, _∙_}
 use native.Mathlib.Omega.{arith}
+use lib.Bits.{bitAnd}
 use lib.ListN.{length}
 use Rattle.model.specs.Sizes.{cardSize}
 use Rattle.model.specs.Bits.{spentCounter, triesLeft}
 use Rattle.model.specs.Volatile.{Volatile}
-use Rattle.model.specs.Command.{Command}
-use Rattle.model.specs.Instruction.{Instruction}
-use Rattle.model.specs.Busy.{State}
+use Rattle.model.specs.Instruction.{Command, Instruction}
+use Rattle.model.specs.State.{State}
 use Rattle.model.specs.Device.{Counter, ofPassword, ofAuthentication, counterPlace, spent}
 use Rattle.model.specs.At88sc1608.{at88sc1608}
 use Rattle.model.specs.Call.{powered, Report, replying}
@@ -19,6 +19,7 @@ use Rattle.model.specs.Single.{apply, act}
 use Rattle.laws.specs.BitLaws.{bits-most, bits-none, none-zero, cleared-fewer}
 use Rattle.laws.specs.BusyLaws.{triesGiven, given-tries}
 use Rattle.laws.specs.Effects.{triesAfter, hands-out}
+use Rattle.laws.specs.Tables.{agree-at}
 use Rattle.properties.specs.AcceptedSession.{leaving}
 
 pub most : (x : ℕ) → triesLeft x ≤ 8
@@ -32,6 +33,10 @@ none x h = (none-zero 8 x h, λ e. ap triesLeft e ∙ bits-none 8)
 pub fewer : (x : ℕ) → x < 256 → (x ≡ 0 → ⊥) → suc (spent at88sc1608 x .tries) ≡ triesLeft x
 unfolding triesLeft spentCounter
 fewer = cleared-fewer 8
+
+pub lowest : (x : ℕ) → x < 256 → spentCounter x ≡ bitAnd x (x - 1)
+unfolding spentCounter
+lowest = agree-at spentCounter (λ x. bitAnd x (x - 1)) 256 refl
 
 -- a card has its counters
 counters-in : (c : List ℕ) → length c ≡ cardSize → (n : Counter) → counterPlace at88sc1608 n < length c

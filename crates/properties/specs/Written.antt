@@ -17,9 +17,10 @@ use Rattle.laws.specs.KindLaws.{each-row}
 use Rattle.laws.specs.NumberLaws.{number-append, number-bytes}
 use Rattle.model.specs.At88sc1608.{at88sc1608}
 use Rattle.laws.specs.StagingLaws.{staging-same}
-use Rattle.model.specs.Log.{Ending, zoned, Entry, zoneBytes, headerBytes, headerLength, entryBytes, entriesBytes, logTrailer}
-use Rattle.model.specs.Log.{ignoredKind, entryFits, zoneFits, AllFit, Fits, LaidOut, countOf, offsetOf, lengthAt, responseAt, nextEntry}
-use Rattle.model.specs.Log.{entryOk, entriesOk, validAs, valid, entryPlace, placeOf, find, missing, answerIn}
+use Rattle.model.specs.Log.{Ending, zoned, Entry, zoneBytes, headerBytes, headerLength, entryBytes, entriesBytes, logTrailer, ignoredKind, entryFits}
+use Rattle.model.specs.Log.{zoneFits, AllFit, Fits, LaidOut}
+use Rattle.model.specs.LogCheck.{countOf, offsetOf, lengthAt, responseAt, nextEntry, entryOk, entriesOk, validAs, valid, entryPlace, placeOf, find, missing}
+use Rattle.model.specs.LogCheck.{located, answerIn}
 use Rattle.model.specs.Record.{Kind, kinds, known, lengthFits}
 use Rattle.model.specs.Refusal.{noSuchAnswer}
 use Rattle.laws.specs.EntryLaws.{header-least, header-most}
@@ -172,6 +173,17 @@ module _ (E : Ending) where
       rw (first-entry p e es q, next-at p e (entriesBytes E es ++ q) (fits-two e (f .0 .response-fits)))
       (rw (other-entries p e es q) at (each-entry P here es (p ++ entryBytes E e) q (f .1) k (le-of-suc-le-suc h)))
 
+  -- entry k lies behind the k entries before it
+  entry-place : (es : List Entry) (p q : List ℕ) → AllFit E es → (k : ℕ) → k < length es
+      → entryPlace E k (p ++ (entriesBytes E es ++ q)) (length p) ≡ length p + length (entriesBytes E (take k es))
+  entry-place [] p q f k h = absurd (let z : ⊥ = omega arith in z)
+  entry-place (e ∷ es) p q f zero h = omega arith
+  entry-place (e ∷ es) p q f (suc k) h =
+      let a = length-append p (entryBytes E e) in
+      let b = length-append (entryBytes E e) (entriesBytes E (take k es)) in
+      rw (first-entry p e es q, next-at p e (entriesBytes E es ++ q) (fits-two e (f .0 .response-fits)))
+      (rw (other-entries p e es q) at (entry-place es (p ++ entryBytes E e) q (f .1) k (le-of-suc-le-suc h)) ∙ (omega arith))
+
   -- ---- the trailer, and the whole log
 
   module _ (es : List Entry) (card l : List ℕ) (w : LaidOut E es card l) where
@@ -251,6 +263,10 @@ module _ (E : Ending) where
         → (k : ℕ) → k < length es → P (entryOf es k) l (entryPlace E k l 0)
     written-each P here k h = rw (w .same) (each-entry P here es [] (card ++ logTrailer E offset (length es)) (w .fit) k h)
 
+    pub written-place : (k : ℕ) → k < length es → entryPlace E k l 0 ≡ length (entriesBytes E (take k es))
+    written-place k h =
+        rw (w .same) (entry-place es [] (card ++ logTrailer E offset (length es)) (w .fit) k h ∙ (omega arith))
+
     -- its card is the card that was written
     pub written-card : take cardSize (drop (offsetOf l) l) ≡ card
     written-card =
@@ -283,6 +299,19 @@ module _ (es : List Entry) (card l : List ℕ) (w : LaidOut zoned es card l) whe
   pub written-zone : (k : ℕ) → k < length es → zoned .names (entryOf es k .kind) ≡ true → at l (placeOf l k + 3) ≡ entryOf es k .zone
   written-zone k h =
       (written-each zoned es card l w (λ e l i. zoned .names (e .kind) ≡ true → at l (i + 3) ≡ e .zone) (λ p e q f. zone-at zoned p e q) k h)
+
+  -- answer k is found: behind the entries before it and its own header
+  pub written-found : (k : ℕ) → k < length es
+      → find l k ≡ located (length (entriesBytes zoned (take k es)) + headerLength zoned (entryOf es k .kind)) (length (entryOf es k .response))
+  unfolding find
+  written-found k h =
+      rw (written-valid, count-is zoned es card l w, lt-ltb _ _ h)
+      (λ i. located (written-place zoned es card l w k h i + headerLength zoned (written-kind k h i)) (size i))
+    where
+      size : lengthAt l (placeOf l k) ≡ length (entryOf es k .response)
+      size =
+          written-each zoned es card l w (λ e l i. lengthAt l i ≡ length (e .response))
+          (λ p e q f. length-at zoned p e q (fits-two e (f .response-fits))) k h
 
   -- and past the last entry there is none
   pub written-none : (k : ℕ) → length es ≤ k → find l k ≡ missing noSuchAnswer

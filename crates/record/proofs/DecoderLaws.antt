@@ -1,10 +1,11 @@
 -- The decoder of the model, from what the tests of the code found, in their order.
 use Prim.Native.Nat.{ℕ, _+_, _≤_, _<_}
-use mathlib.Core.Bool.{Bool, true, false, not}
+use mathlib.Core.Bool.{Bool, true, false, cond, not}
 use mathlib.Core.List.{List, []}
 use mathlib.Core.Path.{_≡_, sym, ap, _∙_}
 use borrow.Author.Tests.{lt-ltb, le-ltb, eq-eqb, ne-eqb, not-false}
-use lib.ListN.{length}
+use lib.Dec.{ltb}
+use lib.ListN.{length, take, drop}
 use Rattle.model.specs.At88sc1608.{at88sc1608}
 use Rattle.model.specs.Call.{refused, whole}
 use Rattle.model.specs.Instruction.{Instruction}
@@ -15,7 +16,8 @@ use Rattle.model.specs.Refusal.{unknownKind, fieldOutOfRange, cutShort}
 use Rattle.record.specs.declared.decoder.Record.{Record}
 use Rattle.record.specs.declared.decoder.Head.{Head}
 use Rattle.record.specs.DecodedRecord.{instructionOf, recordOf, headOf, measureOf}
-use Rattle.record.specs.HeadLaws.{refused-of, whole-of, known-within, made-answer, head-instruction}
+use Rattle.laws.specs.KindLaws.{known-within}
+use Rattle.record.specs.HeadLaws.{refused-of, whole-of, made-answer, head-instruction}
 
 -- ---- a kind byte
 
@@ -45,9 +47,13 @@ module _ (part : List ℕ) where
         out-of-range e = rw (ne-eqb _ _ nonempty, ← kind, ← test, found, ← start, le-ltb _ _ fields, ← first, ← second, ← range, e)
 
         module _ (m : ℕ) (within : not ok′ ≡ false) (length-is : m ≡ 1 + fixedFields k + dataLength k n) where
-          pub data-absent : length part < m → refused cutShort ≡ measureOf (decode part)
+          abbrev bytes : List ℕ
+          bytes = take (dataLength k n) (drop (1 + s) part)
+
+          -- what is left to be judged
+          left : decode part ≡ cond (ltb (length part) m) (refused cutShort) (whole (made k a n bytes) m)
           unfolding decode
-          data-absent e =
+          left =
               rw (
                 ne-eqb _ _ nonempty,
                 ← kind,
@@ -60,27 +66,15 @@ module _ (part : List ℕ) where
                 le-ltb _ _ fields,
                 ← range,
                 within,
-                lt-ltb _ _ e,
               )
 
+          pub data-absent : length part < m → refused cutShort ≡ measureOf (decode part)
+          data-absent e = sym (ap measureOf left ∙ rw (lt-ltb _ _ e))
+
           pub all-there : (l : ℕ) → m ≤ length part → l ≡ fullAnswer at88sc1608 (made k 0 n []) → whole l m ≡ measureOf (decode part)
-          unfolding decode
           all-there l e q =
-              rw (
-                ne-eqb _ _ nonempty,
-                ← kind,
-                ← first,
-                ← second,
-                ← length-is,
-                ← test,
-                found,
-                ← start,
-                le-ltb _ _ fields,
-                ← range,
-                within,
-                le-ltb _ _ e,
-              )
-              (ap (λ (x : ℕ). whole x m) (q ∙ made-answer a n _ k (sym test ∙ not-false ok found)))
+              ap (λ (x : ℕ). whole x m) (q ∙ made-answer a n bytes k (sym test ∙ not-false ok found))
+              ∙ sym (ap measureOf left ∙ rw (le-ltb _ _ e))
 
 -- ---- the record of a part whose lengths are known
 

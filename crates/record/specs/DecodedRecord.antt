@@ -7,7 +7,7 @@ use lib.ListN.{take, drop}
 use Rattle.model.specs.Lists.{at}
 use Rattle.model.specs.At88sc1608.{at88sc1608}
 use Rattle.model.specs.Call as call
-use Rattle.model.specs.Command as command
+use Rattle.model.specs.Instruction as command
 use Rattle.model.specs.Instruction.{Instruction, powerCycle, issue, wait, poll, writeStaged, arm}
 use Rattle.laws.specs.BusyLaws.{fullAnswer}
 use Rattle.record.specs.declared.decoder.Record.{Record}

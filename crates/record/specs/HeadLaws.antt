@@ -15,7 +15,7 @@ use Rattle.model.specs.Record.{kinds, known, fixedFields, dataLength, made, dat
 use Rattle.laws.specs.BoolLaws.{and-left, and-right}
 use Rattle.laws.specs.CallLaws.{refused-whole}
 use Rattle.laws.specs.BusyLaws.{fullAnswer}
-use Rattle.laws.specs.KindLaws.{each-kind}
+use Rattle.laws.specs.KindLaws.{each-kind, known-within}
 use Rattle.laws.specs.RecordLaws.{dataOf, Accepted, accepted, decode-kind}
 use Rattle.record.specs.declared.decoder.Head.{Head}
 use Rattle.record.specs.DecodedRecord.{between, instructionOf, recordOf, headOf, askedBy, measureOf}
@@ -31,15 +31,6 @@ whole-of l n (refused m) e = absurd (refused-whole m l n (sym e))
 whole-of l n (whole k m) e = let q : n ≡ m = cc in (k, ap (whole k) (sym q), cc)
 
 -- ---- a known kind
-
-pub known-within : (kind : ℕ) → known kind ≡ true → (1 ≤ kind) × (kind ≤ 16)
-known-within kind e =
-    let z : kind ≡ 0 → ⊥ = eqb-false kind 0 (not-true _ (and-left (not (eqb kind 0)) (leb kind 16) e)) in
-    let m : kind ≤ 16 = leb-true kind 16 (and-right (not (eqb kind 0)) (leb kind 16) e) in
-    (omega arith, m)
-
-pub within-known : (kind : ℕ) → (1 ≤ kind) × (kind ≤ 16) → known kind ≡ true
-within-known kind h = rw (ne-eqb kind 0 (λ e. omega arith), le-leb kind 16 (h .1))
 
 module _ (a n : ℕ) (xs : List ℕ) where
   -- the count alone says how long the answer is

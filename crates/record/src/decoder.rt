@@ -3,14 +3,14 @@ ghost use mathlib.Core.Path.{_≡_};
 ghost use lib.ListN.{getD};
 ghost use Rattle.model.specs.Record as model;
 ghost use Rattle.record.specs.DecodedRecord.{decodedOf, recordOf, headOf, measuredOf, measureOf};
-use crate::kind::answer_length;
-use crate::kind::fixed_fields;
-use crate::kind::in_range;
-use crate::kind::is_known;
-use crate::kind::read_count;
-use crate::kind::record_length;
 use crate::refusal::Refusal;
 use access::volatile::Zone;
+use kinds::answer_length;
+use kinds::fixed_fields;
+use kinds::in_range;
+use kinds::is_known;
+use kinds::read_count;
+use kinds::record_length;
 
 // A record without its data bytes, which follow its fixed fields up to the record's end.
 pub enum Record {

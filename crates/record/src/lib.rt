@@ -1,5 +1,4 @@
-// Records: the decoder on a part of a slice, what a kind tells, the refusals, and the numbers of the formats.
+// Records: the decoder on a part of a slice, the refusals, and the numbers of the formats.
 pub mod decoder;
-pub mod kind;
 pub mod number;
 pub mod refusal;

@@ -8,8 +8,8 @@ use borrow.Author.Tests.{eqb-true, ne-eqb}
 use lib.Dec.{eqb}
 use Rattle.model.specs.Sizes.{fuseAt, flagAt}
 use Rattle.model.specs.Volatile.{Volatile, isGranted}
-use Rattle.model.specs.Command.{Command}
-use Rattle.model.specs.Staging.{Tear}
+use Rattle.model.specs.Instruction.{Command}
+use Rattle.model.specs.State.{Tear}
 use Rattle.model.specs.Call.{Call}
 use Rattle.model.specs.Access.{ate}
 use Rattle.model.specs.At88sc1608.{at88sc1608, fuses, registerAt, registerOf, attemptsAt, configurationAt}

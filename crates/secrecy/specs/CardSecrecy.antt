@@ -8,7 +8,7 @@ use mathlib.Core.List.{List}
 use mathlib.Core.Path.{_≡_}
 use Rattle.model.specs.Call.{Call}
 use Rattle.model.specs.Access.{rpe, ate, passwordSet}
-use Rattle.model.specs.Staging.{Tear}
+use Rattle.model.specs.State.{Tear}
 use Rattle.secrecy.specs.Secret.{Sealed, Idle, register, inZone, inZoneOrPasswords, orStaged, AgreeOutside}
 use Rattle.secrecy.specs.Secret.{PresentsNeither, AcceptsNot, Throughout, ThroughoutElsewhere, Indistinguishable}
 use Rattle.secrecy.specs.ReadPassword as read

@@ -10,10 +10,8 @@ use lib.Dec.{ltb, leb}
 use lib.ListN.{length}
 use Rattle.model.specs.Sizes.{cardSize, fuseAt, flagAt}
 use Rattle.model.specs.Volatile.{Volatile}
-use Rattle.model.specs.Command.{Command}
-use Rattle.model.specs.Instruction.{Instruction}
-use Rattle.model.specs.Staging.{Tear}
-use Rattle.model.specs.Busy.{poweredUp}
+use Rattle.model.specs.Instruction.{Command, Instruction}
+use Rattle.model.specs.State.{Tear, poweredUp}
 use Rattle.model.specs.Call.{Call, powered}
 use Rattle.model.specs.At88sc1608.{at88sc1608, mayRead, configurationAt, zoneCell}
 use Rattle.model.specs.Apply.{rules}

@@ -11,18 +11,17 @@ use lib.ListN.{length}
 use Rattle.model.specs.Lists.{at, sameList}
 use Rattle.laws.specs.ListLaws.{length-tab, tab-cong, at-tab, sameList-false}
 use Rattle.model.specs.Volatile.{Volatile, powerUp}
-use Rattle.model.specs.Command.{Command, verifyPassword}
+use Rattle.model.specs.Instruction.{Command, verifyPassword, Instruction, powerCycle, issue, wait, poll, writeStaged, arm, kindOf}
 use Rattle.model.specs.Cells.{Cell, writeCells}
-use Rattle.model.specs.Instruction.{Instruction, powerCycle, issue, wait, poll, writeStaged, arm, kindOf}
 use Rattle.model.specs.Device.{Device}
 use Rattle.model.specs.Refusal.{cardLength, fuseByte, stagingBytes, stateOutOfRange}
 use Rattle.model.specs.Call.{powered, Acted, Decoded, Call, replies, final}
 use Rattle.model.specs.Apply.{rules, password, apply}
-use Rattle.model.specs.Staging.{idleFlag, readyFlag, untorn, isReady, stagedAt, stagedZone, stagedAddress, stagedLength, stagedValues, mayStage, finalValues}
+use Rattle.model.specs.Staging.{idleFlag, readyFlag, isReady, stagedAt, stagedZone, stagedAddress, stagedLength, stagedValues, mayStage, finalValues}
 use Rattle.model.specs.Staging.{finishCells, stageCells, cellsUnder, tearsIn}
-use Rattle.model.specs.Busy.{State, timed, powerOn, powerLost, writeTime, isBusy, actsAlways, actsBusy, ignores, answeredKind}
-use Rattle.model.specs.Busy.{laid, cycled, staged, perform, act}
-use Rattle.model.specs.Busy.{makeState}
+use Rattle.model.specs.State.{untorn, State, timed, powerOn, powerLost, writeTime, isBusy, makeState}
+use Rattle.model.specs.Busy.{actsAlways, actsBusy, ignores, answeredKind}
+use Rattle.model.specs.Act.{laid, cycled, staged, perform, act}
 use Rattle.model.specs.Single.{isFuseByte, stateInRange, checkOf}
 use Rattle.laws.specs.StagingLaws.{Stages, names-kept, Fate, none, all, still, Torn, finished}
 use Rattle.laws.specs.StagingLaws as staging

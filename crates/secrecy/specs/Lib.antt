@@ -3,9 +3,8 @@
 -- the words of its statements
 pub mod Along
 pub mod Secret
--- the final statements, and that they are not empty
+-- the final statements
 pub mod CardSecrecy
-pub mod Examples
 -- what proves them: two cards under one command and under a list of calls, for any device; then the AT88SC1608's two claims
 pub mod Agree
 pub mod TwoRows

@@ -10,8 +10,8 @@ use Rattle.model.specs.Sizes.{fuseAt, flagAt}
 use Rattle.model.specs.Lists.{sameList}
 use Rattle.laws.specs.BoolLaws.{and-false}
 use Rattle.model.specs.Volatile.{Volatile, isActive, isGranted}
-use Rattle.model.specs.Command.{Command, verifyPassword}
-use Rattle.model.specs.Staging.{Tear}
+use Rattle.model.specs.Instruction.{Command, verifyPassword}
+use Rattle.model.specs.State.{Tear}
 use Rattle.model.specs.Call.{Call}
 use Rattle.model.specs.Access.{rpe, ate, passwordSet, met, setOf}
 use Rattle.model.specs.At88sc1608.{at88sc1608, fuses, registerAt, registerOf, passwordByte, mayRead, attemptsAt, configurationAt}

@@ -8,10 +8,10 @@ use lib.Dec.{ltb, leb, eqb}
 use lib.ListN.{length}
 use Rattle.model.specs.Sizes.{cardSize, fuseAt, flagAt}
 use Rattle.model.specs.Lists.{at}
-use Rattle.model.specs.Command.{Command, verifyPassword, verifyAuthentication}
-use Rattle.model.specs.Instruction.{Instruction, issue, writeStaged}
-use Rattle.model.specs.Staging.{idleFlag, Tear, mayStage}
-use Rattle.model.specs.Busy.{State, poweredUp, ignores}
+use Rattle.model.specs.Instruction.{Command, verifyPassword, verifyAuthentication, Instruction, issue, writeStaged}
+use Rattle.model.specs.Staging.{idleFlag, mayStage}
+use Rattle.model.specs.State.{Tear, State, poweredUp}
+use Rattle.model.specs.Busy.{ignores}
 use Rattle.model.specs.Call.{Call, powered}
 use Rattle.model.specs.Apply as any
 use Rattle.model.specs.At88sc1608.{at88sc1608, registerAt, passwordByte}

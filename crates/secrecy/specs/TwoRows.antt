@@ -9,7 +9,8 @@ use lib.ListN.{length, set}
 use Rattle.model.specs.Lists.{at}
 use Rattle.model.specs.Cells.{Cell, cell, writeCells, row, torn}
 use Rattle.model.specs.Device.{Device}
-use Rattle.model.specs.Staging.{Tear, untorn, tearAfter, spoilt, cellsUnder}
+use Rattle.model.specs.State.{Tear, untorn, tearAfter}
+use Rattle.model.specs.Staging.{spoilt, cellsUnder}
 use Rattle.secrecy.specs.Secret.{AgreeOutside}
 use Rattle.secrecy.specs.Agree.{set-agree}
 

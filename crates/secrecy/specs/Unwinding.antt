@@ -9,12 +9,12 @@ use lib.ListN.{set}
 use Rattle.model.specs.Lists.{at, tab, sameList, stores}
 use Rattle.laws.specs.ListLaws.{tab-cong}
 use Rattle.model.specs.Volatile.{Volatile, isBegun}
-use Rattle.model.specs.Command.{Command, reset, select, readZone, writeZone, readConfiguration, writeConfiguration}
-use Rattle.model.specs.Command.{readFuses, writeFuses, verifyPassword, beginAuthentication, verifyAuthentication}
+use Rattle.model.specs.Instruction.{Command, reset, select, readZone, writeZone, readConfiguration, writeConfiguration, readFuses, writeFuses, verifyPassword}
+use Rattle.model.specs.Instruction.{beginAuthentication, verifyAuthentication}
 use Rattle.model.specs.Device.{Device, Counter, ofPassword, ofAuthentication, counterPlace}
 use Rattle.model.specs.Staging.{stagedAt}
 use Rattle.model.specs.Busy.{makesBusy}
-use Rattle.model.specs.Call.{Acted, attempted, reporting, silent, tried}
+use Rattle.model.specs.Call.{Acted, reporting, tried}
 use Rattle.model.specs.Apply.{Attempt, locked, right, wrong, attemptOf, Judgement, notBegun, accepted, denied, judgementOf}
 use Rattle.model.specs.Apply.{rules, shown, kept, password, counted, presented, started, judged, apply}
 use Rattle.secrecy.specs.Secret.{AgreeOutside}
@@ -54,25 +54,25 @@ module _ (D : Device) (hidden : ℕ → Bool) (open-places : Open D hidden) wher
 
   -- a counter that counts leaves as many tries on both
   counted-same : (c₁ c₂ : List ℕ) (s : Volatile) (n : Counter) → AgreeOutside hidden c₁ c₂
-      → Same hidden (attempted (counted D (counterPlace D n) c₁ s)) (attempted (counted D (counterPlace D n) c₂ s))
+      → Same hidden (counted D (counterPlace D n) c₁ s) (counted D (counterPlace D n) c₂ s)
   counted-same c₁ c₂ s n h = (
-    ap (λ (v : ℕ). attempted (tried c₁ s (D .tries (D .spend v))) .report) (h .same _ (open-places .counter n)),
+    ap (λ (v : ℕ). (tried c₁ s (D .tries (D .spend v))) .report) (h .same _ (open-places .counter n)),
     set-agree hidden c₁ c₂ _ _ _ h (λ o. ap (D .spend) (h .same _ o)),
   )
 
   presented-same : (a : Attempt) (c₁ c₂ : List ℕ) (s : Volatile) (k : ℕ) → AgreeOutside hidden c₁ c₂
-      → Same hidden (attempted (presented D a c₁ s k)) (attempted (presented D a c₂ s k))
+      → Same hidden (presented D a c₁ s k) (presented D a c₂ s k)
   presented-same locked c₁ c₂ s k h = (refl, h)
   presented-same right c₁ c₂ s k h = (refl, set-agree hidden c₁ c₂ _ _ _ h (λ o. refl))
   presented-same wrong c₁ c₂ s k h = counted-same c₁ c₂ _ (ofPassword k) h
 
   started-same : (locked : Bool) (c₁ c₂ : List ℕ) (s : Volatile) → AgreeOutside hidden c₁ c₂
-      → Same hidden (attempted (started D locked c₁ s)) (attempted (started D locked c₂ s))
+      → Same hidden (started D locked c₁ s) (started D locked c₂ s)
   started-same true c₁ c₂ s h = (refl, h)
   started-same false c₁ c₂ s h = counted-same c₁ c₂ _ ofAuthentication h
 
   judged-same : (j : Judgement) (c₁ c₂ : List ℕ) (s : Volatile) (xs : List ℕ) → AgreeOutside hidden c₁ c₂
-      → Same hidden (silent (judged D j c₁ s xs)) (silent (judged D j c₂ s xs))
+      → Same hidden (judged D j c₁ s xs) (judged D j c₂ s xs)
   judged-same notBegun c₁ c₂ s xs h = (refl, h)
   judged-same accepted c₁ c₂ s xs h = (refl, set-agree hidden _ _ _ _ _ (stores-agree hidden _ _ xs 0 c₁ c₂ h) (λ o. refl))
   judged-same denied c₁ c₂ s xs h = (refl, h)
@@ -117,12 +117,12 @@ module _ (D : Device) (hidden : ℕ → Bool) (open-places : Open D hidden) wher
         go false = h
     unwind (verifyPassword j xs) g =
         subst (λ (v : ℕ). Same hidden (apply D c₁ s (verifyPassword j xs))
-        (attempted (presented D (attemptOf (eqb v 0) (sameList xs (password D c₂ j))) c₂ s j))) (h .same _ (open-places .counter (ofPassword j)))
+        (presented D (attemptOf (eqb v 0) (sameList xs (password D c₂ j))) c₂ s j)) (h .same _ (open-places .counter (ofPassword j)))
         (subst (λ (r : Bool). Same hidden (apply D c₁ s (verifyPassword j xs))
-        (attempted (presented D (attemptOf (eqb (at c₁ (D .counterAt j)) 0) r) c₂ s j))) (g j xs refl)
+        (presented D (attemptOf (eqb (at c₁ (D .counterAt j)) 0) r) c₂ s j)) (g j xs refl)
         (presented-same (attemptOf (eqb (at c₁ (D .counterAt j)) 0) (sameList xs (password D c₁ j))) c₁ c₂ s j h))
     unwind beginAuthentication g =
-        subst (λ (v : ℕ). Same hidden (apply D c₁ s beginAuthentication) (attempted (started D (eqb v 0) c₂ s)))
+        subst (λ (v : ℕ). Same hidden (apply D c₁ s beginAuthentication) (started D (eqb v 0) c₂ s))
         (h .same _ (open-places .counter ofAuthentication))
         (started-same (eqb (at c₁ (D .attemptsAt)) 0) c₁ c₂ s h)
     unwind (verifyAuthentication v xs) g = judged-same (judgementOf (isBegun (s .authentication)) v) c₁ c₂ s xs h

@@ -9,7 +9,7 @@ use Rattle.model.specs.At88sc1608.{at88sc1608, attemptsAt}
 use Rattle.model.specs.Device.{Spent, spent}
 use Rattle.model.specs.Lists.{at}
 use Rattle.model.specs.Volatile.{Volatile, idle, begun, granted, isBegun, authenticating}
-use Rattle.model.specs.Command.{beginAuthentication, verifyAuthentication}
+use Rattle.model.specs.Instruction.{beginAuthentication, verifyAuthentication}
 use Rattle.model.specs.Apply as any
 use Rattle.model.specs.Call.{reporting}
 use Rattle.model.specs.Single.{apply}

@@ -7,7 +7,7 @@ use lib.ListN.{set}
 use Rattle.model.specs.Sizes.{fuseAt}
 use Rattle.model.specs.Lists.{at}
 use Rattle.model.specs.Volatile.{Volatile, isActive}
-use Rattle.model.specs.Command.{writeFuses}
+use Rattle.model.specs.Instruction.{writeFuses}
 use Rattle.model.specs.At88sc1608.{blow}
 use Rattle.model.specs.Apply as any
 use Rattle.model.specs.Single.{apply}

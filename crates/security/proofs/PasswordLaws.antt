@@ -6,7 +6,7 @@ use Rattle.model.specs.Apply.{password}
 use Rattle.model.specs.At88sc1608.{at88sc1608, counterAt, passwordByte}
 use Rattle.model.specs.Bits.{triesLeft}
 use Rattle.model.specs.Device.{Spent, spent}
-use Rattle.model.specs.Command.{verifyPassword}
+use Rattle.model.specs.Instruction.{verifyPassword}
 use Rattle.model.specs.Lists.{at, sameList, tab, Bytes}
 use Rattle.model.specs.Numbers.{numberAt}
 use Rattle.laws.specs.WordLaws.{passwords-tested}

@@ -7,7 +7,7 @@ use Rattle.model.specs.Lists.{at}
 use Rattle.model.specs.Volatile.{Volatile}
 use Rattle.model.specs.Apply.{attemptOf, presented}
 use Rattle.model.specs.At88sc1608.{at88sc1608, counterAt}
-use Rattle.model.specs.Call.{Acted, attempted}
+use Rattle.model.specs.Call.{Acted}
 
 unfoldable pub settled : List ℕ → Volatile → ℕ → Bool → Acted Volatile
-settled c s k right = attempted (presented at88sc1608 (attemptOf (eqb (at c (counterAt k)) 0) right) c s k)
+settled c s k right = presented at88sc1608 (attemptOf (eqb (at c (counterAt k)) 0) right) c s k

@@ -3,7 +3,7 @@ use Prim.Native.Nat.{ℕ}
 use mathlib.Core.List.{List}
 use Rattle.model.specs.Call as call
 use Rattle.model.specs.Volatile as model
-use Rattle.access.specs.State.{volatileOf}
+use Rattle.access.specs.VolatileState.{volatileOf}
 use Rattle.security.specs.declared.report.Report.{Report}
 
 abbrev pub reportOf : Report → List ℕ → call.Report model.Volatile

@@ -2,7 +2,7 @@
 ghost use mathlib.Core.Path.{_≡_};
 ghost use mathlib.Core.List.{[]};
 ghost use Rattle.model.specs.Call as call;
-ghost use Rattle.access.specs.State.{volatileOf};
+ghost use Rattle.access.specs.VolatileState.{volatileOf};
 ghost use Rattle.security.specs.Report.{reportOf};
 use access::volatile::Volatile;
 

@@ -10,8 +10,9 @@ use lib.Seq.{sets, sets-eq, length-sets, drop-append-le, drop-drop, take-all, le
 use Rattle.model.specs.Sizes.{cardSize, leastSession, leastLog}
 use Rattle.laws.specs.NumberLaws.{sets-append}
 use Rattle.model.specs.At88sc1608.{at88sc1608}
-use Rattle.model.specs.Busy.{State, powerOn, actsAlways, actsBusy, isHalted, ignores}
-use Rattle.model.specs.Call.{Powered, powered, silent, whole}
+use Rattle.model.specs.State.{State, powerOn}
+use Rattle.model.specs.Busy.{actsAlways, actsBusy, isHalted, ignores}
+use Rattle.model.specs.Call.{Powered, powered, acted, whole}
 use Rattle.model.specs.Instruction.{Instruction, kindOf}
 use Rattle.laws.specs.BusyLaws.{fullAnswer, givenAnswer, act-ignored, given-answer, given-most}
 use Rattle.laws.specs.EntryLaws.{header-least, fullEntry}
@@ -106,7 +107,7 @@ module _ (part : List ℕ) (m : Powered State) (log : List ℕ) (place : ℕ) (r
                 ∙ (λ k. sets log place (headerBytes zoned (kinds k) (length (a k .report .answer)) zone ++ a k .report .answer));
           }
         where
-          a : silent (powered (m .card) (m .state)) ≡ act (m .card) (m .state) i
+          a : acted (m .card) (m .state) [] ≡ act (m .card) (m .state) i
           a = sym (act-ignored at88sc1608 (m .card) (m .state) i ignored)
 
     -- one that is carried out

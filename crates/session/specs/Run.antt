@@ -13,7 +13,7 @@ use Rattle.model.specs.Reader.{recordsEnd}
 use Rattle.model.specs.Record.{decode}
 use Rattle.laws.specs.Sane.{Good}
 use Rattle.model.specs.Session as model
-use Rattle.model.specs.Busy.{State, powerOn}
+use Rattle.model.specs.State.{State, powerOn}
 use Rattle.properties.specs.SessionLaws.{fullTotal}
 use Rattle.record.specs.RefusalNumber.{outcomeNumber}
 use Rattle.session.specs.declared.result.Run.{Run}

@@ -9,7 +9,7 @@ use lib.Dec.{ltb, eqb}
 use lib.ListN.{length}
 use Rattle.model.specs.Cells.{Cell, torn}
 use Rattle.model.specs.Staging.{spoilt, cellsUnder, tearsIn}
-use Rattle.model.specs.Staging as model
+use Rattle.model.specs.State as model
 use Rattle.model.specs.At88sc1608.{at88sc1608}
 use Rattle.laws.specs.CellLaws.{torn-none}
 use Rattle.staging.specs.declared.tear.Tear.{Tear}

@@ -169,4 +169,5 @@ fn main() {
     log_reads("log reads, 4,096 zone reads", &zone_reads, &mut log);
     log_reads("log reads, most met while busy", &met_busy, &mut log);
     written("4,096 short records, written", &short, &mut log);
+    written("60 records of a mix, written", &waiting[0], &mut log);
 }

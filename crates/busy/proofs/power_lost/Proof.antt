@@ -2,8 +2,7 @@
 use mathlib.Core.Bool.{true}
 use mathlib.Core.Path.{ap}
 use Rattle.model.specs.Volatile.{Volatile}
-use Rattle.model.specs.Staging.{untorn}
-use Rattle.model.specs.Busy.{makeState}
+use Rattle.model.specs.State.{untorn, makeState}
 use borrow.Author.Needs.{needs}
 use Rattle.busy.proofs.power_lost.Statement.{statement}
 use Rattle.busy.proofs.power_lost.Tie as tie

@@ -2,7 +2,7 @@
 use mathlib.Core.Bool.{false}
 use mathlib.Core.Path.{ap}
 use Rattle.model.specs.Volatile.{Volatile}
-use Rattle.model.specs.Busy.{makeState}
+use Rattle.model.specs.State.{makeState}
 use Rattle.staging.specs.Fuel.{tearOf}
 use borrow.Author.Needs.{needs}
 use Rattle.busy.proofs.powered_up.Statement.{statement}

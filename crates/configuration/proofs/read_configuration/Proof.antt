@@ -7,7 +7,7 @@ use borrow.Author.Needs.{needs}
 use lib.ListN.{length, drop}
 use Rattle.configuration.proofs.ConfigurationLaws.{read-configuration}
 use Rattle.access.specs.Column.{columnAllows}
-use Rattle.access.specs.State.{activeOf}
+use Rattle.access.specs.VolatileState.{activeOf}
 use Rattle.model.specs.At88sc1608.{configurationAt}
 use Rattle.model.specs.Lists.{at, tab}
 use Rattle.laws.specs.Loops.{tab-start, tab-next, tab-done}

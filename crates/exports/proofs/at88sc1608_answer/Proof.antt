@@ -2,7 +2,7 @@
 use mathlib.Core.Path.{sym, ap, _∙_}
 use borrow.Author.Needs.{needs}
 use Rattle.log.specs.Found.{foundOf}
-use Rattle.exports.specs.Exports.{exportedAnswer}
+use Rattle.results.specs.Results.{exportedAnswer}
 use Rattle.exports.specs.Lengths.{answer-small}
 use Rattle.exports.proofs.at88sc1608_answer.Statement.{statement}
 use Rattle.exports.proofs.at88sc1608_answer.Tie as tie

@@ -4,7 +4,8 @@ use native.Mathlib.Omega.{arith}
 use Rattle.model.specs.Apply as any
 use Rattle.record.specs.DataLaws.{between-some}
 use Rattle.record.specs.DecodedRecord.{recordOf}
-use Rattle.issue.proofs.IssuedLaws.{without-tries, answered, last-kind}
+use Rattle.timed_security.specs.IssuedCommandLaws.{without-tries}
+use Rattle.issue.proofs.IssuedLaws.{answered, unanswered, last-kind}
 use borrow.Author.Needs.{needs}
 use Rattle.issue.proofs.issue.Statement.{statement}
 use Rattle.issue.proofs.issue.Tie as tie
@@ -261,7 +262,7 @@ returns-9 : tie.Need-returns-9
 unfolding recordOf any.apply
 returns-9 c =
     let the-match = c .before .before .before .before .before .match in
-    rw (the-match .keys9) (answered _ _ _ _ _ _ _ _ (c .before .before .present .ensures) refl)
+    rw (the-match .keys9) (unanswered _ _ _ _ _ _ _ (c .before .before .present .ensures) refl)
 
 same-length-13 : tie.Need-same-length-13
 same-length-13 c = search needs
@@ -270,7 +271,7 @@ returns-10 : tie.Need-returns-10
 unfolding recordOf any.apply
 returns-10 c =
     let the-match = c .before .before .before .before .match in
-    rw (the-match .keys10) (answered _ _ _ _ _ _ _ _ (c .before .before .begin .ensures) refl)
+    rw (the-match .keys10) (unanswered _ _ _ _ _ _ _ (c .before .before .begin .ensures) refl)
 
 same-length-14 : tie.Need-same-length-14
 same-length-14 c = search needs
@@ -280,7 +281,7 @@ unfolding recordOf any.apply
 returns-11 c =
     let start = c .before .before .before .before .before .before .before .before .before .before .before in
     let the-match = c .before .before .before .before .before .before .match in
-    let k = last-kind _ (start .pre .0) (start .pre .1) (the-match .rest) in rw k (answered _ _ _ _ _ _ _ _ (c .before .before .judge .ensures) refl)
+    let k = last-kind _ (start .pre .0) (start .pre .1) (the-match .rest) in rw k (unanswered _ _ _ _ _ _ _ (c .before .before .judge .ensures) refl)
 
 pub issue-spec : {M : Type 1} → statement M
 issue-spec =

@@ -1,7 +1,14 @@
 -- Nothing to finish; or the staged values, and whether the fuel lasted.
-use mathlib.Core.Path.{refl}
+use Prim.Native.Nat.{ℕ}
+use mathlib.Core.Bool.{Bool, true, false, cond}
+use mathlib.Core.Path.{_≡_, refl, _∙_}
+use borrow.Author.Tests.{eq-eqb, ne-eqb}
+use lib.Dec.{eqb}
+use Rattle.model.specs.Instruction.{powerCycle}
+use Rattle.model.specs.State.{State, powerOn, powerLost}
+use Rattle.carry.specs.Carried.{Performed}
 use Rattle.busy.specs.TimedState.{stateOf}
-use Rattle.carry.proofs.StagedLaws.{cycle-idle, ready-zone, ready-length, cycle-torn, cycle-done}
+use Rattle.carry.proofs.StagedLaws.{cycle-idle, ready-zone, ready-length, cycle-laid}
 use borrow.Author.Needs.{needs}
 use Rattle.carry.proofs.staged.power_cycle.Statement.{statement}
 use Rattle.carry.proofs.staged.power_cycle.Tie as tie
@@ -77,6 +84,19 @@ finish-requires c κs =
     let l = ready-length (start .args .card .now) (stateOf (start .args .state)) (start .pre .1) (start .pre .0) (if1 .left) in
     search needs
 
+abbrev entry : tie.After-finish → tie.Start
+entry c = c .before .before .before .before .before .before .before .before .before .before .before .before .before .before .before .before .before
+
+-- behind the finishing, by whether the power is lost
+finishes : (c : tie.After-finish) (lost : Bool) → eqb (c .finish .result) 0 ≡ lost → (s′ : State) (tries : ℕ) → s′ ≡ cond lost powerLost powerOn
+    → tries ≡ 0 → Performed (entry c .args .card .now) (stateOf (entry c .args .state)) powerCycle (c .finish .last .0) s′ tries
+finishes c =
+    let start = entry c in
+    let if1 = c .before .before .before .before .before .before .before .before .before .before .before .before .before .if1 in
+    let copy = c .before .before .before .before .before .before .before .copy in
+    cycle-laid (start .args .card .now) (stateOf (start .args .state)) (start .pre .1) (start .pre .0) (if1 .left) _ _ _ refl refl (copy .ensures) _ _ _ _
+    (c .before .before .fuel .ensures) (c .before .junk .ensures) (c .finish .ensures .1) (c .finish .ensures .0)
+
 power-lost-requires : tie.Need-power-lost-requires
 power-lost-requires c κs = search needs
 
@@ -88,17 +108,8 @@ same-length c = search needs
 
 returns-2 : tie.Need-returns-2
 returns-2 c =
-    let start = c .before .before .before .before .before .before .before .before .before .before .before .before .before .before .before .before .before
-    .before .before .before .before .before in
-    let if1 = c .before .before .before .before .before .before .before .before .before .before .before .before .before .before .before .before .before
-    .before .if1 in
-    let copy = c .before .before .before .before .before .before .before .before .before .before .before .before .copy in
-    let fuel = c .before .before .before .before .before .before .before .fuel in
-    let junk = c .before .before .before .before .before .before .junk in
-    let finish = c .before .before .before .before .before .finish in
-    cycle-torn (start .args .card .now) (stateOf (start .args .state)) (start .pre .1) (start .pre .0) (if1 .left) _ _ _ refl refl (copy .ensures) _ _ _ _
-    (fuel .ensures) (junk .ensures) (finish .ensures .1) (finish .ensures .0) (c .before .before .if2 .taken) _ _ _ (c .quiet2 .ensures .0)
-    (c .quiet2 .ensures .1) (c .before .power-lost .ensures)
+    finishes (c .before .before .before .before .before) true (eq-eqb _ _ (c .before .before .if2 .taken)) _ _
+    (c .quiet2 .ensures .0 ∙ c .before .power-lost .ensures) (c .quiet2 .ensures .1)
 
 power-on-requires : tie.Need-power-on-requires
 power-on-requires c κs = search needs
@@ -111,17 +122,8 @@ same-length-2 c = search needs
 
 returns-3 : tie.Need-returns-3
 returns-3 c =
-    let start = c .before .before .before .before .before .before .before .before .before .before .before .before .before .before .before .before .before
-    .before .before .before .before .before in
-    let if1 = c .before .before .before .before .before .before .before .before .before .before .before .before .before .before .before .before .before
-    .before .if1 in
-    let copy = c .before .before .before .before .before .before .before .before .before .before .before .before .copy in
-    let fuel = c .before .before .before .before .before .before .before .fuel in
-    let junk = c .before .before .before .before .before .before .junk in
-    let finish = c .before .before .before .before .before .finish in
-    cycle-done (start .args .card .now) (stateOf (start .args .state)) (start .pre .1) (start .pre .0) (if1 .left) _ _ _ refl refl (copy .ensures) _ _ _ _
-    (fuel .ensures) (junk .ensures) (finish .ensures .1) (finish .ensures .0) (c .before .before .if2 .left) _ _ _ (c .quiet3 .ensures .0)
-    (c .quiet3 .ensures .1) (c .before .power-on .ensures)
+    finishes (c .before .before .before .before .before) false (ne-eqb _ _ (c .before .before .if2 .left)) _ _
+    (c .quiet3 .ensures .0 ∙ c .before .power-on .ensures) (c .quiet3 .ensures .1)
 
 pub power-cycle-spec : {M : Type 1} → statement M
 power-cycle-spec =

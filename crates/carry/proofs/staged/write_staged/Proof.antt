@@ -1,7 +1,14 @@
 -- Forbidden; or the final values, and whether the fuel lasted.
-use mathlib.Core.Path.{refl}
+use Prim.Native.Nat.{ℕ}
+use mathlib.Core.Bool.{Bool, true, false, cond}
+use mathlib.Core.Path.{_≡_, refl, _∙_}
+use borrow.Author.Tests.{eq-eqb, ne-eqb}
+use lib.Dec.{eqb}
+use Rattle.model.specs.Instruction.{writeStaged}
+use Rattle.model.specs.State.{State, makeState, arming as rearmed, untorn, powerLost, writeTime}
+use Rattle.carry.specs.Carried.{Performed}
 use Rattle.busy.specs.TimedState.{stateOf}
-use Rattle.carry.proofs.StagedLaws.{stage-forbidden, stage-torn, stage-done}
+use Rattle.carry.proofs.StagedLaws.{stage-forbidden, stage-laid}
 use borrow.Author.Needs.{needs}
 use Rattle.carry.proofs.staged.write_staged.Statement.{statement}
 use Rattle.carry.proofs.staged.write_staged.Tie as tie
@@ -49,6 +56,24 @@ junk-requires c κs = search needs
 stage-requires : tie.Need-stage-requires
 stage-requires c κs = search needs
 
+abbrev entry : tie.After-stage → tie.Start
+entry c = c .before .before .before .before .before .before .before .before .before .before .before .before .before .before .before .before
+    .before .before .before
+
+-- behind the staging, by whether the power is lost
+stages : (c : tie.After-stage) (lost : Bool) → eqb (c .stage .result) 0 ≡ lost → (s′ : State) (tries : ℕ)
+    → s′ ≡ cond lost powerLost (makeState (stateOf (entry c .args .state) .volatile) writeTime (stateOf (entry c .args .state) .off) untorn) → tries ≡ 0
+    → Performed (entry c .args .card .now) (stateOf (entry c .args .state)) (writeStaged (entry c .args .address) (entry c .args .bytes .now))
+    (c .stage .last .0) s′ tries
+stages c =
+    let start = entry c in
+    let may-stage = c .before .before .before .before .before .before .before .before .before .before .before .before .before .may-stage in
+    let if1 = c .before .before .before .before .before .before .before .before .before .before .before .before .if1 in
+    let final-values = c .before .before .before .before .before .before .before .before .before .final-values in
+    stage-laid (start .args .card .now) (stateOf (start .args .state)) (start .args .address) (start .args .bytes .now) _
+    (may-stage .ensures (start .args .address)) (if1 .left) (start .pre .2) _ _ refl (final-values .ensures) _ _ _ _ (c .before .before .fuel .ensures)
+    (c .before .junk .ensures) (c .stage .ensures .1) (c .stage .ensures .0)
+
 power-lost-requires : tie.Need-power-lost-requires
 power-lost-requires c κs = search needs
 
@@ -60,20 +85,8 @@ same-length-2 c = search needs
 
 returns-2 : tie.Need-returns-2
 returns-2 c =
-    let start = c .before .before .before .before .before .before .before .before .before .before .before .before .before .before .before .before .before
-    .before .before .before .before .before .before .before in
-    let may-stage = c .before .before .before .before .before .before .before .before .before .before .before .before .before .before .before .before
-    .before .before .may-stage in
-    let if1 = c .before .before .before .before .before .before .before .before .before .before .before .before .before .before .before .before .before
-    .if1 in
-    let final-values = c .before .before .before .before .before .before .before .before .before .before .before .before .before .before .final-values in
-    let fuel = c .before .before .before .before .before .before .before .fuel in
-    let junk = c .before .before .before .before .before .before .junk in
-    let stage = c .before .before .before .before .before .stage in
-    stage-torn (start .args .card .now) (stateOf (start .args .state)) (start .args .address) (start .args .bytes .now) _
-    (may-stage .ensures (start .args .address)) (if1 .left) (start .pre .2) _ _ refl (final-values .ensures) _ _ _ _ (fuel .ensures) (junk .ensures)
-    (stage .ensures .1) (stage .ensures .0) (c .before .before .if2 .taken) _ _ _ (c .quiet2 .ensures .0) (c .quiet2 .ensures .1)
-    (c .before .power-lost .ensures)
+    stages (c .before .before .before .before .before) true (eq-eqb _ _ (c .before .before .if2 .taken)) _ _
+    (c .quiet2 .ensures .0 ∙ c .before .power-lost .ensures) (c .quiet2 .ensures .1)
 
 arming-requires : tie.Need-arming-requires
 arming-requires c κs = search needs
@@ -86,22 +99,10 @@ same-length-3 c = search needs
 
 returns-3 : tie.Need-returns-3
 returns-3 c =
-    let start = c .before .before .before .before .before .before .before .before .before .before .before .before .before .before .before .before .before
-    .before .before .before .before .before .before .before in
     let timed = c .before .before .before .before .before .before .before .before .before .before .before .before .before .before .before .before .before
     .before .before .before .timed in
-    let may-stage = c .before .before .before .before .before .before .before .before .before .before .before .before .before .before .before .before
-    .before .before .may-stage in
-    let if1 = c .before .before .before .before .before .before .before .before .before .before .before .before .before .before .before .before .before
-    .if1 in
-    let final-values = c .before .before .before .before .before .before .before .before .before .before .before .before .before .before .final-values in
-    let fuel = c .before .before .before .before .before .before .before .fuel in
-    let junk = c .before .before .before .before .before .before .junk in
-    let stage = c .before .before .before .before .before .stage in
-    stage-done (start .args .card .now) (stateOf (start .args .state)) (start .args .address) (start .args .bytes .now) _
-    (may-stage .ensures (start .args .address)) (if1 .left) (start .pre .2) _ _ refl (final-values .ensures) _ _ _ _ (fuel .ensures) (junk .ensures)
-    (stage .ensures .1) (stage .ensures .0) (c .before .before .if2 .left) _ _ _ _ (c .quiet3 .ensures .0) (c .quiet3 .ensures .1) (timed .ensures)
-    (c .before .arming .ensures)
+    stages (c .before .before .before .before .before) false (ne-eqb _ _ (c .before .before .if2 .left)) _ _
+    (c .quiet3 .ensures .0 ∙ c .before .arming .ensures ∙ (λ j. rearmed (timed .ensures j) untorn)) (c .quiet3 .ensures .1)
 
 pub write-staged-spec : {M : Type 1} → statement M
 write-staged-spec =

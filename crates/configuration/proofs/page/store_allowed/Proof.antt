@@ -4,7 +4,7 @@ use mathlib.Core.Path.{_≡_}
 use borrow.Author.Needs.{needs}
 use lib.ListN.{length, drop}
 use Rattle.configuration.specs.ConfigurationPage.{allowedOf}
-use Rattle.access.specs.State.{activeOf}
+use Rattle.access.specs.VolatileState.{activeOf}
 use Rattle.model.specs.Lists.{stores}
 use Rattle.laws.specs.Loops.{stores-next, stores-done}
 use Rattle.configuration.proofs.page.store_allowed.Statement.{statement}

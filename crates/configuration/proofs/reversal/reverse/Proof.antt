@@ -8,7 +8,7 @@ use native.Mathlib.Omega.{arith}
 use Rattle.model.specs.Bits.{reversed}
 use Rattle.model.specs.Lists.{at, tab}
 use Rattle.laws.specs.Loops.{tab-start, tab-next, tab-done}
-use Rattle.model.specs.Reversal.{reversals}
+use Rattle.laws.specs.Reversal.{reversals}
 use Rattle.laws.specs.ReversalLaws.{reversal-rule}
 use Rattle.configuration.proofs.reversal.reverse.Statement.{statement}
 use Rattle.configuration.proofs.reversal.reverse.Tie as tie

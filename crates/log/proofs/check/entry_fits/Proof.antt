@@ -1,7 +1,7 @@
 -- A kind, or that of an ignored record.
 use mathlib.Core.Path.{sym, _∙_}
 use borrow.Author.Needs.{needs}
-use Rattle.record.specs.HeadLaws.{known-within}
+use Rattle.laws.specs.KindLaws.{known-within}
 use Rattle.log.proofs.LogCheckLaws.{fits-known, fits-ignored}
 use Rattle.log.proofs.check.entry_fits.Statement.{statement}
 use Rattle.log.proofs.check.entry_fits.Tie as tie

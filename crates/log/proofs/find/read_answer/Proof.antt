@@ -42,7 +42,7 @@ use denote.Triple.Table.{entered, cited}
 use denote.Triple.Walked.{says, Stays, stay-none, stay-none-slice, walkOf, goes-none, goes-none-slice, Walks, ends-at, walked, walk-meets}
 use denote.Exit.{yes}
 use denote.Triple.Clauses.{ensured, lasts}
-use Rattle.model.specs.Log as model
+use Rattle.model.specs.LogCheck as model
 use Rattle.log.specs.Found.{foundOf, Within}
 use Rattle.log.specs.declared.find.Answer.{Answer}
 use Rattle.log.specs.declared.find.Found.{Found}

@@ -1,4 +1,4 @@
-use Rattle.access.specs.State.{volatileOf}
+use Rattle.access.specs.VolatileState.{volatileOf}
 -- The bytes of the page in their places.
 use mathlib.Core.Path.{refl}
 use Rattle.memory.proofs.ZoneMemoryLaws.{stage-values}

@@ -1,4 +1,4 @@
-use Rattle.access.specs.State.{volatileOf}
+use Rattle.access.specs.VolatileState.{volatileOf}
 -- All bytes of a zone have one right.
 use Rattle.memory.proofs.ZoneMemoryLaws.{stage-right}
 use borrow.Author.Needs.{needs}

@@ -1,7 +1,7 @@
 -- Closed and filled, or read run by run.
 use borrow.Author.Needs.{needs}
 use Rattle.memory.proofs.ZoneMemoryLaws.{read-zone-shut, read-zone-open}
-use Rattle.access.specs.State.{volatileOf}
+use Rattle.access.specs.VolatileState.{volatileOf}
 use Rattle.memory.proofs.zone.read_zone.Statement.{statement}
 use Rattle.memory.proofs.zone.read_zone.Tie as tie
 

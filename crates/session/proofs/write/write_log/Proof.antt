@@ -1,7 +1,10 @@
 -- The working card, the entries, the final card and the trailer, each in its place.
+use Prim.Native.Nat.{_+_, _≤_}
 use mathlib.Core.Path.{refl}
 use native.Mathlib.Omega.{arith}
 use borrow.Author.Needs.{needs}
+use lib.ListN.{length}
+use Rattle.model.specs.Sizes.{leastLog}
 use Rattle.session.proofs.SessionWriteLaws.{session-long, records-ready, entries-room, log-written}
 use Rattle.session.proofs.write.write_log.Statement.{statement}
 use Rattle.session.proofs.write.write_log.Tie as tie
@@ -37,54 +40,32 @@ run-records-requires c κs =
     let copy = c .before .before .before .copy in
     records-ready _ _ (start .pre) _ _ _ _ refl (copy .ensures) (get4 .ensures .0) (get2 .ensures .0)
 
+abbrev entry : tie.After-run-records → tie.Start
+entry c = c .before .before .before .before .before .before .before .before .before .before
+
+-- behind the records: the entries, with a card and a trailer, have room
+room : (c : tie.After-run-records) → c .run-records .result + leastLog ≤ length (entry c .args .log .now)
+room c =
+    let start = entry c in
+    let get4 = c .before .before .before .before .before .before .before .get4 in
+    let get2 = c .before .before .before .before .before .before .get2 in
+    let copy = c .before .before .before .before .copy in
+    entries-room _ _ (start .pre) _ _ _ _ refl (copy .ensures) (get4 .ensures .0) (get2 .ensures .0) _ _ _ (c .run-records .ensures)
+
 slice-aggregate-copy-2 : tie.Need-slice-aggregate-copy-2
 slice-aggregate-copy-2 c = search needs
 
 copy-requires-2 : tie.Need-copy-requires-2
-copy-requires-2 c κs =
-    let start = c .before .before .before .before .before .before .before .before .before .before .before .before .before .before .before in
-    let get4 = c .before .before .before .before .before .before .before .before .before .before .before .before .get4 in
-    let get2 = c .before .before .before .before .before .before .before .before .before .before .before .get2 in
-    let copy = c .before .before .before .before .before .before .before .before .before .copy in
-    let run-records = c .before .before .before .before .before .run-records in
-    let e = entries-room _ _ (start .pre) _ _ _ _ refl (copy .ensures) (get4 .ensures .0) (get2 .ensures .0) _ _ _ (run-records .ensures) in search needs
+copy-requires-2 c κs = let e = room (c .before .before .before .before .before) in search needs
 
 add-put-trailer : tie.Need-add-put-trailer
-add-put-trailer c =
-    let start =
-    c .before .before .before .before .before .before .before .before .before .before .before .before
-    .before .before .before .before .before .before .before in
-    let get4 = c .before .before .before .before .before .before .before .before .before .before .before .before .before .before .before .before .get4 in
-    let get2 = c .before .before .before .before .before .before .before .before .before .before .before .before .before .before .before .get2 in
-    let copy = c .before .before .before .before .before .before .before .before .before .before .before .before .before .copy in
-    let run-records = c .before .before .before .before .before .before .before .before .before .run-records in
-    let e = entries-room _ _ (start .pre) _ _ _ _ refl (copy .ensures) (get4 .ensures .0) (get2 .ensures .0) _ _ _ (run-records .ensures) in omega arith
+add-put-trailer c = let e = room (c .before .before .before .before .before .before .before .before .before) in omega arith
 
 put-trailer-requires : tie.Need-put-trailer-requires
-put-trailer-requires c κs =
-    let start =
-    c .before .before .before .before .before .before .before .before .before .before .before .before
-    .before .before .before .before .before .before .before in
-    let get4 = c .before .before .before .before .before .before .before .before .before .before .before .before .before .before .before .before .get4 in
-    let get2 = c .before .before .before .before .before .before .before .before .before .before .before .before .before .before .before .get2 in
-    let copy = c .before .before .before .before .before .before .before .before .before .before .before .before .before .copy in
-    let run-records = c .before .before .before .before .before .before .before .before .before .run-records in
-    let e = entries-room _ _ (start .pre) _ _ _ _ refl (copy .ensures) (get4 .ensures .0) (get2 .ensures .0) _ _ _ (run-records .ensures) in omega arith
+put-trailer-requires c κs = let e = room (c .before .before .before .before .before .before .before .before .before) in omega arith
 
 add-result : tie.Need-add-result
-add-result c =
-    let start =
-    c .before .before .before .before .before .before .before .before .before .before .before .before
-    .before .before .before .before .before .before .before .before .before .before in
-    let get4 =
-    c .before .before .before .before .before .before .before .before .before .before .before .before
-    .before .before .before .before .before .before .before .get4 in
-    let get2 =
-    c .before .before .before .before .before .before .before .before .before .before .before .before
-    .before .before .before .before .before .before .get2 in
-    let copy = c .before .before .before .before .before .before .before .before .before .before .before .before .before .before .before .before .copy in
-    let run-records = c .before .before .before .before .before .before .before .before .before .before .before .before .run-records in
-    let e = entries-room _ _ (start .pre) _ _ _ _ refl (copy .ensures) (get4 .ensures .0) (get2 .ensures .0) _ _ _ (run-records .ensures) in omega arith
+add-result c = let e = room (c .before .before .before .before .before .before .before .before .before .before .before .before) in omega arith
 
 same-length : tie.Need-same-length
 same-length c = search needs

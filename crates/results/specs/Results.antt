@@ -1,0 +1,16 @@
+-- The numbers that the exported functions give back.
+use Prim.Native.Nat.{ℕ, _+_, _*_, _^_}
+use Rattle.model.specs.LogCheck.{Found, missing, located}
+
+-- the refusal's number, or 0, and 2^8 times a length
+abbrev pub result : ℕ → ℕ → ℕ
+result refusal n = refusal + 2 ^ 8 * n
+
+-- the refusal's number, or 0, 2^8 times the response's length, 2^24 times the tries left and 2^32 times the kind that is answered
+abbrev pub commandResult : ℕ → ℕ → ℕ → ℕ → ℕ
+commandResult refusal n tries kind = refusal + 2 ^ 8 * n + 2 ^ 24 * tries + 2 ^ 32 * kind
+
+-- the refusal's number, or 2^8 times the answer's length and 2^40 times where it begins in the log
+abbrev pub exportedAnswer : Found → ℕ
+exportedAnswer (missing n) = n
+exportedAnswer (located from n) = 2 ^ 8 * n + 2 ^ 40 * from

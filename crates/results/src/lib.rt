@@ -1,0 +1,41 @@
+// The numbers that the exported functions give back.
+ghost use mathlib.Core.Path.{_≡_};
+ghost use Prim.Native.Nat.{_*_, _≤_, _^_};
+ghost use Rattle.model.specs.Sizes.{mostRecords};
+ghost use Rattle.model.specs.LogCheck.{located};
+ghost use Rattle.record.specs.RefusalNumber.{outcomeNumber};
+ghost use Rattle.results.specs.Results.{result, commandResult, exportedAnswer};
+use record::refusal::Outcome;
+use record::refusal::outcome_number;
+
+// helper: the refusal's number, or 0, with 2^8 times a length.
+pub fn result_number(outcome: Outcome, length: usize) -> u64
+    requires { ⌜ length ≤ 2 ^ 32 ⌝ }
+    ensures { λ r. ⌜ r ≡ result (outcomeNumber outcome) length ⌝ }
+{
+    let refusal = outcome_number(outcome) as u64;
+    let long = length as u64;
+    refusal + 256 * long
+}
+
+// helper: the refusal's number, or 0, with 2^8 times a length, 2^24 times the tries left and 2^32 times the kind that is answered.
+pub fn command_number(outcome: Outcome, length: usize, tries: u8, kind: u8) -> u64
+    requires { ⌜ length ≤ 2 ^ 32 ⌝ }
+    ensures { λ r. ⌜ r ≡ commandResult (outcomeNumber outcome) length tries kind ⌝ }
+{
+    let refusal = outcome_number(outcome) as u64;
+    let long = length as u64;
+    let left = tries as u64;
+    let answered = kind as u64;
+    refusal + 4294967296 * answered + 16777216 * left + 256 * long
+}
+
+// helper: 2^8 times an answer's length and 2^40 times where it begins.
+pub fn answer_number(from: usize, length: usize) -> u64
+    requires { ⌜ (length ≤ 256) × (from ≤ 260 * mostRecords) ⌝ }
+    ensures { λ r. ⌜ r ≡ exportedAnswer (located from length) ⌝ }
+{
+    let start = from as u64;
+    let long = length as u64;
+    256 * long + 1099511627776 * start
+}

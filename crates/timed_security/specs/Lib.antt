@@ -1,0 +1,2 @@
+pub mod IssuedCommand
+pub mod IssuedCommandLaws
