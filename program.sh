@@ -27,3 +27,15 @@ build() {
         touch "$binary"
     fi
 }
+
+# Runs a program. It has no status of its own to end with, so what it says on standard error tells; its output goes out only when it is whole.
+run_whole() {
+    work=$(mktemp -d)
+    trap 'rm -rf "$work"' EXIT
+    "$@" >"$work/out" 2>"$work/err"
+    if [ -s "$work/err" ]; then
+        cat "$work/err" >&2
+        exit 1
+    fi
+    cat "$work/out"
+}

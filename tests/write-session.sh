@@ -1,25 +1,8 @@
 #!/usr/bin/env bash
 # The program that writes sessions, against the second implementation's: the same session, or the same refusal and nothing written, at the
 # edges of every part and beyond them. Then what it says of itself, and what it was wrongly called with.
-set -euo pipefail
-top=$(cd "$(dirname "${BASH_SOURCE[0]}")/.." && pwd)
-work=$(mktemp -d)
-trap 'rm -rf "$work"' EXIT
-cd "$work"
-
-fail() {
-    echo "write-session: $1" >&2
-    exit 1
-}
-
-(cd "$top/second" && cargo build --release --offline --quiet --bin write-session) || fail "the second implementation's program was not built"
-second=$top/target/second/release/write-session
-
-called() { # STATUS ARGUMENT..: what it writes is in out and err
-    local status=0
-    "$top/write-session" "${@:2}" </dev/null >out 2>err || status=$?
-    [ "$status" -eq "$1" ] || fail "write-session ${*:2:3}: status $status, not $1"
-}
+name=write-session
+. "$(dirname "${BASH_SOURCE[0]}")/program.sh"
 
 accepted() { # CARD RECORDS COUNT [TITLE]
     called 0 "$@"
@@ -32,10 +15,6 @@ refused() { # NUMBER CARD RECORDS COUNT [TITLE]
     [ ! -s out ] || fail "${*:2:3}: something was written"
     grep -q "^write-session: refused $1: [a-z]" err || fail "${*:2:3}: '$(cat err)', not a refusal $1 with its meaning"
     [ "$("$second" "${@:2}" 2>&1 >/dev/null)" = "refused $1" ] || fail "${*:2:3}: the second implementation does not refuse with $1"
-}
-
-many() { # COUNT BYTE: a byte, in octal, so many times
-    head -c "$1" /dev/zero | tr '\0' "\\$2"
 }
 
 cp "$top/examples/written.card" card
@@ -88,16 +67,7 @@ cmp out "$top/examples/written.session" || fail "the example is not as stored"
 "$top/target/bin/write_session" card two 2 >/dev/full 2>err
 grep -q '^standard output: ' err || fail "a full device: the program says '$(cat err)'"
 
-for option in -h --help; do
-    called 0 "$option"
-    grep -q '^usage: write-session' out || fail "$option: no usage on standard output"
-    [ ! -s err ] || fail "$option: something on standard error"
-done
-for wrong in --no-such-option -x; do
-    called 2 "$wrong"
-    grep -q '^usage: write-session' err || fail "$wrong: no usage on standard error"
-    [ ! -s out ] || fail "$wrong: something on standard output"
-done
+options
 called 2 card two
 called 2 card two 2 A B
 called 2 card two ''

@@ -1,5 +1,6 @@
 //! The public calls with the results of the C interface.
 
+use crate::mender::{self, Mended};
 use crate::{command, log, refusal::Refusal, session, writer};
 
 /// The result of an accepted call, or the refusal's number alone.
@@ -41,4 +42,10 @@ pub fn at88sc1608_write_session(
 ) -> u64 {
     let written = writer::write_session(card, title, records, count, session);
     pack(written.map(|length| (length as u64) << 8))
+}
+
+/// Refusal + 2^8 · count + 2^32 · start.
+pub fn at88sc1608_mend(session: &mut [u8]) -> u64 {
+    let mended = mender::mend(session);
+    pack(mended.map(|Mended { start, count }| u64::from(count) << 8 | (start as u64) << 32))
 }

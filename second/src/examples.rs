@@ -1,6 +1,8 @@
 //! The examples a newcomer can run; each says in its free text what it shows.
 
 use crate::author::{password, Author};
+use crate::layout::TRAILER;
+use crate::mender;
 
 /// The paper's printed example, without free text.
 pub fn printed() -> Author {
@@ -232,10 +234,31 @@ pub fn written() -> Author {
         .read_fuses()
 }
 
+/// What the mender's example is a copy of.
+pub fn copied() -> Author {
+    Author::new(7)
+        .text(b"A copy that ends in eight wrong bytes is mended: 5 records, and they start here:")
+        .select(5)
+        .write(0x00, b"kept")
+        .ready()
+        .read(0x00, 4)
+        .read_fuses()
+}
+
+/// That copy, with eight wrong bytes for its trailer.
+pub fn lost() -> Vec<u8> {
+    let mut session = copied().session();
+    let end = session.len() - TRAILER;
+    session[end..].fill(0);
+    session
+}
+
 /// Names and sessions.
 pub fn all() -> Vec<(&'static str, Vec<u8>)> {
     let paper = printed().text(b"The example printed in the paper.\n");
     let written = written().parts().written().expect("the writer takes its example");
+    let mut mended = lost();
+    mender::mend(&mut mended).expect("the mender takes its example");
     [
         ("paper", paper),
         ("personalised", personalised()),
@@ -251,6 +274,6 @@ pub fn all() -> Vec<(&'static str, Vec<u8>)> {
     ]
     .map(|(name, author)| (name, author.session()))
     .into_iter()
-    .chain([("written", written)])
+    .chain([("written", written), ("lost", lost()), ("mended", mended)])
     .collect()
 }

@@ -473,6 +473,20 @@ fn set_trailer(session: &mut [u8], start: u32, count: u16) {
     session[at + 4..at + 6].copy_from_slice(&count.to_le_bytes());
 }
 
+/// Gives a session a trailer that is not its own: other bytes, or one thing in it wrong.
+pub fn lose_trailer(rng: &mut Rng, session: &mut [u8]) {
+    let end = session.len() - TRAILER;
+    let any = rng.bytes(TRAILER);
+    match rng.below(6) {
+        0 => session[end..].fill(rng.pick(&[0x00, 0x08, 0xFF])),
+        1 => session[end..].copy_from_slice(&any),
+        2 => session[end + 6 + rng.below(2)] ^= 1 << rng.below(8),
+        3 => session[end..end + 4].copy_from_slice(&any[..4]),
+        4 => session[end + 4..end + 6].copy_from_slice(&any[4..6]),
+        _ => set_trailer(session, rng.pick(&[0, CARD as u32, end as u32, u32::MAX]), u16::MAX),
+    }
+}
+
 /// A session with one or more things wrong; now and then it is sound all the same.
 pub fn damaged_session(rng: &mut Rng, session: &[u8]) -> Vec<u8> {
     let mut bytes = session.to_vec();

@@ -15,6 +15,7 @@ pub mod gen;
 pub mod layout;
 pub mod listing;
 pub mod log;
+pub mod mender;
 pub mod record;
 pub mod refusal;
 pub mod samples;

@@ -19,6 +19,7 @@ pub enum Refusal {
     NoSuchAnswer = 14,
     TitleLength = 15,
     Staging = 16,
+    NoStart = 17,
 }
 
 impl Refusal {

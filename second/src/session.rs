@@ -29,7 +29,7 @@ pub fn trailer(start: usize, count: u16) -> [u8; TRAILER] {
 }
 
 /// The card that a session begins with.
-fn first_card(session: &[u8]) -> Result<&Card, Refusal> {
+pub fn first_card(session: &[u8]) -> Result<&Card, Refusal> {
     session.first_chunk().ok_or(Refusal::SessionLength)
 }
 

@@ -1,9 +1,10 @@
 //! What the paper says in so many words: cases A–L, the edges, the printed example, each refusal
 //! by its number, the tries left, what closed bytes show, and the mistakes that are easily made.
-//! What is said of a busy card, of staged writes, of the zones in a log and of the session writer
-//! has files of its own.
+//! What is said of a busy card, of staged writes, of the zones in a log, of the session writer and
+//! of the mender has files of its own.
 
 mod busy;
+mod mender;
 mod staging;
 mod writer;
 mod zones;

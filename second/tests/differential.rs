@@ -1,10 +1,11 @@
 //! The proved library against the second implementation: every small case in turn, then lists of
-//! commands, sessions, log reads and written sessions from the seeded generator.
+//! commands, sessions, log reads, written and mended sessions from the seeded generator.
 //!
 //! A failure prints its seed; `SEED=n` runs the generated tests with that seed alone.
 
 mod both;
 mod busy;
+mod mender;
 mod proved;
 mod staging;
 mod writer;

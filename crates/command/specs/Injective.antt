@@ -53,7 +53,8 @@ outcomeFrom n =
     (cond (eqb n 11) refusal.CardLength
     (cond (eqb n 12) refusal.StateOutOfRange
     (cond (eqb n 13) refusal.NotALog
-    (cond (eqb n 14) refusal.NoSuchAnswer (cond (eqb n 15) refusal.TitleLength refusal.StagingBytes))))))))))))))))
+    (cond (eqb n 14) refusal.NoSuchAnswer
+    (cond (eqb n 15) refusal.TitleLength (cond (eqb n 16) refusal.StagingBytes refusal.NoStart)))))))))))))))))
 
 active-back : (a : Active) → activeFrom (activeOf a) ≡ a
 active-back active.None = refl
@@ -85,6 +86,7 @@ refused-back refusal.NotALog = refl
 refused-back refusal.NoSuchAnswer = refl
 refused-back refusal.TitleLength = refl
 refused-back refusal.StagingBytes = refl
+refused-back refusal.NoStart = refl
 
 outcome-back : (o : Outcome) → outcomeFrom (outcomeNumber o) ≡ o
 outcome-back outcome.Accepted = refl

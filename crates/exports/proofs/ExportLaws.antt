@@ -6,7 +6,7 @@ use mathlib.Core.Path.{_≡_, refl, sym, ap, _∙_}
 use native.Mathlib.Omega.{arith}
 use lib.Dec.{eqb}
 use lib.ListN.{length}
-use Rattle.model.specs.Sizes.{cardSize, fuseAt}
+use Rattle.model.specs.Sizes.{cardSize, fuseAt, greatestSession, mostRecords}
 use Rattle.model.specs.Lists.{at, Bytes}
 use Rattle.model.specs.Call.{Called, calling}
 use Rattle.model.specs.Call as calls
@@ -15,9 +15,11 @@ use Rattle.model.specs.Session.{Ran, run}
 use Rattle.model.specs.Single.{isFuseByte, stagingFits, checkOf, check, command}
 use Rattle.model.specs.State.{State}
 use Rattle.model.specs.Writer.{Parts, writeSession}
+use Rattle.model.specs.Mender.{Mended, mend}
 use Rattle.exports.specs.Exports.{runCall, toldRun, exportedRun, commandCall, toldCommand, exportedCommand, exportedWriting}
-use Rattle.results.specs.Results.{result, commandResult}
-use Rattle.exports.specs.Lengths.{response-small, run-small, writing-small}
+use Rattle.exports.specs.Exports.{toldMending, exportedMending}
+use Rattle.results.specs.Results.{result, commandResult, mendResult}
+use Rattle.exports.specs.Lengths.{response-small, run-small, writing-small, mending-small}
 use Rattle.state_bytes.specs.StateBytes.{isState, stateOf, stateAfter}
 use Rattle.state_bytes.specs.StateLaws.{state-long, state-range}
 
@@ -77,3 +79,12 @@ module _ (p : Parts) (space : List ℕ) (x : Ran) (written : x ≡ writeSession 
 
   pub writing-told : (r : ℕ) → r ≡ result (x .refusal) (x .size) → runCall r (x .space) ≡ exportedWriting p space
   writing-told r e = ap (λ (n : ℕ). runCall n (x .space)) e ∙ ap toldRun written
+
+-- ---- a session that is mended
+
+module _ (s : List ℕ) (x : Mended) (mended : x ≡ mend s) where
+  pub mending-fits : (x .count ≤ mostRecords) × (x .start ≤ greatestSession)
+  mending-fits = rw mended (mending-small s)
+
+  pub mending-told : (r : ℕ) → r ≡ mendResult (x .refusal) (x .count) (x .start) → runCall r (x .session) ≡ exportedMending s
+  mending-told r e = ap (λ (n : ℕ). runCall n (x .session)) e ∙ ap toldMending mended

@@ -6,8 +6,9 @@ use Rattle.model.specs.Session.{Ran, run}
 use Rattle.model.specs.Single.{command}
 use Rattle.model.specs.State.{State}
 use Rattle.model.specs.Writer.{Parts, writeSession}
+use Rattle.model.specs.Mender.{Mended, mend}
 use Rattle.state_bytes.specs.StateBytes.{stateOf, stateAfter}
-use Rattle.results.specs.Results.{result, commandResult}
+use Rattle.results.specs.Results.{result, commandResult, mendResult}
 
 -- ---- at88sc1608_run
 
@@ -54,3 +55,12 @@ exportedCommand card state sent response = toldCommand state (command card (stat
 -- the same of a session that is written, and of the space for it
 abbrev pub exportedWriting : Parts → List ℕ → RunCall
 exportedWriting p session = toldRun (writeSession p session)
+
+-- ---- at88sc1608_mend and at88sc1608_mend_by_search
+
+-- the same of a session that is mended, which is itself the lent space
+abbrev pub toldMending : Mended → RunCall
+toldMending x = runCall (mendResult (x .refusal) (x .count) (x .start)) (x .session)
+
+abbrev pub exportedMending : List ℕ → RunCall
+exportedMending session = toldMending (mend session)

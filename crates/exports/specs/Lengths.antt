@@ -27,6 +27,7 @@ use Rattle.model.specs.Record.{decode}
 use Rattle.model.specs.Session.{run}
 use Rattle.model.specs.Single.{check, answeredKind, act, admit, command}
 use Rattle.model.specs.Writer.{Parts, writeSession}
+use Rattle.model.specs.Mender.{mend}
 use Rattle.laws.specs.EntryLaws.{header-most}
 use Rattle.laws.specs.WriterLaws.{writable}
 use Rattle.properties.specs.LogLaws.{entered, trailed, answered}
@@ -36,6 +37,7 @@ use Rattle.properties.specs.TriesLeft.{at-most-eight, given-out}
 use Rattle.properties.specs.Refused.{refused-run, refused-writing}
 use Rattle.properties.specs.SessionPartsLaws.{accepted-parts}
 use Rattle.properties.specs.ReadBack.{laid-out}
+use Rattle.properties.specs.SessionMendingLaws.{mend-within}
 use Rattle.properties.specs.SessionLaws.{decode-logs}
 
 -- ---- a response
@@ -140,3 +142,8 @@ writing-small p space = go (writeSession p space .refusal) refl
     go : (n : ℕ) → writeSession p space .refusal ≡ n → writeSession p space .size ≤ greatestSession
     go zero e = let a = accepted-parts p space e in rw (a .1) (writable p (a .0) .short)
     go (suc n) e = rw (refused-writing p space n e) (omega arith)
+
+-- ---- a mended session
+
+pub mending-small : (s : List ℕ) → (mend s .count ≤ mostRecords) × (mend s .start ≤ greatestSession)
+mending-small = mend-within

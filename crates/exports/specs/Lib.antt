@@ -2,3 +2,4 @@ pub mod Exports
 pub mod ExportedCommandLaws
 pub mod RefusedExports
 pub mod Lengths
+pub mod ExportedMending

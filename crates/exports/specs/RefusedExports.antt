@@ -12,10 +12,12 @@ use Rattle.model.specs.Refusal.{stateOutOfRange}
 use Rattle.model.specs.Session.{run}
 use Rattle.model.specs.Single.{isFuseByte, stagingFits, command}
 use Rattle.model.specs.Writer.{Parts, writeSession}
-use Rattle.properties.specs.Refused.{refused-command, refused-run, refused-writing}
+use Rattle.model.specs.Mender.{mend}
+use Rattle.properties.specs.Refused.{refused-command, refused-run, refused-writing, refused-mending}
 use Rattle.exports.specs.Exports.{runCall, toldRun, exportedRun, commandCall, toldCommand, exportedCommand, exportedWriting}
+use Rattle.exports.specs.Exports.{toldMending, exportedMending}
 use Rattle.exports.specs.ExportedCommandLaws.{unread-refused, result-read}
-use Rattle.results.specs.Results.{result, commandResult}
+use Rattle.results.specs.Results.{result, commandResult, mendResult}
 use Rattle.state_bytes.specs.StateBytes.{isState, stateOf}
 
 -- a number beside which nothing is told
@@ -52,3 +54,8 @@ pub refused-writing-exported : (p : Parts) (session : List ℕ) (n : ℕ) → wr
     → exportedWriting p session ≡ runCall (suc n) session
 refused-writing-exported p session n e =
     ap toldRun (refused-writing p session n e) ∙ ap (λ (r : ℕ). runCall r session) (length-none (suc n))
+
+-- at88sc1608_mend and at88sc1608_mend_by_search: the session
+pub refused-mending-exported : (session : List ℕ) (n : ℕ) → mend session .refusal ≡ suc n → exportedMending session ≡ runCall (suc n) session
+refused-mending-exported session n e =
+    ap toldMending (refused-mending session n e) ∙ ap (λ (r : ℕ). runCall r session) (let z : mendResult (suc n) 0 0 ≡ suc n = omega arith in z)

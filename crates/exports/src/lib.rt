@@ -1,15 +1,19 @@
-// The C interface: a session, a single command, an answer of a log, a session written. Slices pass as a pointer and a length.
+// The C interface: a session, a single command, an answer of a log, a session written, a session mended. Slices pass as a pointer and a
+// length.
 ghost use mathlib.Core.Path.{_≡_};
 ghost use Rattle.model.specs.LogCheck as model;
 ghost use Rattle.model.specs.Writer.{parts};
-ghost use Rattle.exports.specs.Exports.{runCall, exportedRun, commandCall, exportedCommand, exportedWriting};
+ghost use Rattle.exports.specs.Exports.{runCall, exportedRun, commandCall, exportedCommand, exportedWriting, exportedMending};
 ghost use Rattle.results.specs.Results.{exportedAnswer};
 use command::command;
 use log::find::Found;
 use log::find::find;
+use mender::mend;
+use mender::search::mend_by_search;
 use record::refusal::number as refusal_number;
 use results::answer_number;
 use results::command_number;
+use results::mend_number;
 use results::result_number;
 use session::run;
 use state_bytes::read_state;
@@ -72,4 +76,24 @@ pub extern "C" fn at88sc1608_write_session(
     let written = write_session(card, title, records, count as usize, session);
     let outcome = written.outcome;
     result_number(outcome, written.size)
+}
+
+// A session mended in place: the refusal's number, or 0, 2^8 times the count of its records and 2^32 times where they start.
+#[no_mangle]
+pub extern "C" fn at88sc1608_mend(session: &mut [u8]) -> u64
+    ensures { λ r. ⌜ runCall r (now (session .exit)) ≡ exportedMending (now (session .entry)) ⌝ }
+{
+    let mended = mend(session);
+    let outcome = mended.outcome;
+    mend_number(outcome, mended.count, mended.start)
+}
+
+// The same by trying every start in turn, which can take seconds; to compare with.
+#[no_mangle]
+pub extern "C" fn at88sc1608_mend_by_search(session: &mut [u8]) -> u64
+    ensures { λ r. ⌜ runCall r (now (session .exit)) ≡ exportedMending (now (session .entry)) ⌝ }
+{
+    let searched = mend_by_search(session);
+    let outcome = searched.outcome;
+    mend_number(outcome, searched.count, searched.start)
 }

@@ -13,6 +13,7 @@ pub mod RecordLaws
 pub mod SingleLaws
 pub mod ReaderLaws
 pub mod WriterLaws
+pub mod MenderLaws
 pub mod AccessLaws
 pub mod ReadLaws
 pub mod WordLaws

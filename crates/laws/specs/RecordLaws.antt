@@ -51,6 +51,38 @@ accepted part k n e =
 pub decode-within : (part : List ℕ) (k : Instruction) (n : ℕ) → decode part ≡ whole k n → (1 ≤ n) × (n ≤ length part)
 decode-within part k n e = let a = accepted part k n e in omega arith
 
+-- no record is longer: the longest have a kind, two fields and sixteen bytes
+abbrev pub longestRecord : ℕ
+longestRecord = 19
+
+record-short : (a n kind : ℕ) → known kind ≡ true → inRange kind a n ≡ true → 1 + fixedFields kind + dataLength kind n ≤ longestRecord
+unfolding kinds fixedFields inRange dataLength
+record-short a n =
+    each-kind (λ kind. inRange kind a n ≡ true → 1 + fixedFields kind + dataLength kind n ≤ longestRecord)
+    (λ r. omega arith)
+    (λ r. omega arith)
+    (λ r. omega arith)
+    (λ r. omega arith)
+    (λ r. omega (arith, leb-true n 16 (and-right (leb 1 n) _ r)))
+    (λ r. omega arith)
+    (λ r. omega (arith, leb-true n 16 (and-right (leb 1 n) _ (and-right (leb a 127) _ r))))
+    (λ r. omega arith)
+    (λ r. omega arith)
+    (λ r. omega arith)
+    (λ r. omega arith)
+    (λ r. omega arith)
+    (λ r. omega arith)
+    (λ r. omega arith)
+    (λ r. omega (arith, leb-true n 8 (and-right (leb 1 n) _ r)))
+    (λ r. omega arith)
+
+pub decode-short : (part : List ℕ) (k : Instruction) (n : ℕ) → decode part ≡ whole k n → n ≤ longestRecord
+decode-short part k n e =
+    let a = accepted part k n e in
+    let h = record-short (at part 1) (at part 2) (at part 0) (a .kind) (a .fields) in
+    let q = a .size in
+    omega arith
+
 pub length-data : (part : List ℕ) (k : Instruction) (n : ℕ) → Accepted part k n → length (dataOf part) ≡ dataLength (at part 0) (at part 2)
 length-data part k n a =
     length-take-le _ (drop (dataAt part) part) (let w = a .within in simp length-drop (omega arith))

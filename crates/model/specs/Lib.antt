@@ -29,3 +29,4 @@ pub mod Log
 pub mod LogCheck
 pub mod Session
 pub mod Writer
+pub mod Mender

@@ -48,3 +48,6 @@ titleLength = 15
 
 abbrev pub stagingBytes : ℕ
 stagingBytes = 16
+
+abbrev pub noStart : ℕ
+noStart = 17

@@ -9,6 +9,7 @@ pub mod SessionSecret
 pub mod WriterConditions
 pub mod Survival
 pub mod SessionParts
+pub mod MenderConditions
 -- the final statements
 pub mod SessionAcceptance
 pub mod CallAcceptance
@@ -24,6 +25,7 @@ pub mod PasswordWords
 pub mod BusyTimes
 pub mod SessionSecrecy
 pub mod SessionWriting
+pub mod SessionMending
 pub mod StagedWrites
 -- what proves them: of sessions and of refusals
 pub mod SessionLaws
@@ -45,11 +47,14 @@ pub mod ReadBack
 pub mod EachRecord
 -- of demand 3 for sessions
 pub mod AsCalls
+pub mod SameRecords
 pub mod Alike
 pub mod SessionSecrecyLaws
 -- of the session writer
 pub mod WriterConditionsLaws
 pub mod SessionPartsLaws
+pub mod MenderSearchLaws
+pub mod SessionMendingLaws
 -- of staged writes
 pub mod SurvivalLaws
 pub mod TearLaws

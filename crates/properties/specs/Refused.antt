@@ -7,7 +7,8 @@ use Rattle.model.specs.Call.{Call, refusing}
 use Rattle.model.specs.Single.{command}
 use Rattle.model.specs.Session.{rejected, run}
 use Rattle.model.specs.Writer.{Parts, writeSession}
-use Rattle.properties.specs.RefusedLaws.{command-keeps, run-keeps, writing-keeps}
+use Rattle.model.specs.Mender.{unmended, mend}
+use Rattle.properties.specs.RefusedLaws.{command-keeps, run-keeps, writing-keeps, mending-keeps}
 
 -- a single command that is refused leaves the card, the state and the response space as they were
 pub refused-command : (c : List ℕ) (s : State) (x : Call) (n : ℕ) → command c s x .reply .refusal ≡ suc n
@@ -21,3 +22,7 @@ refused-run = run-keeps
 -- the session writer, when it refuses, leaves the space for the session as it was
 pub refused-writing : (p : Parts) (space : List ℕ) (n : ℕ) → writeSession p space .refusal ≡ suc n → writeSession p space ≡ rejected (suc n) space
 refused-writing = writing-keeps
+
+-- the trailer mender, when it refuses, leaves the session as it was
+pub refused-mending : (s : List ℕ) (n : ℕ) → mend s .refusal ≡ suc n → mend s ≡ unmended (suc n) s
+refused-mending = mending-keeps

@@ -16,6 +16,7 @@ use Rattle.model.specs.Session.{startOf, countOf, frame, Read, stopped, all, re
 use Rattle.model.specs.Single.{check, answeredKind, act, admit, command}
 use Rattle.model.specs.State.{State}
 use Rattle.model.specs.Writer.{Parts, sessionBytes, partsRefusal, placed, writeSession}
+use Rattle.model.specs.Mender.{Search, nowhere, found, smallestStart, unmended, mendedBy, untrailedRefusal, searched, mend}
 use Rattle.properties.specs.AcceptedSession.{accepting}
 
 -- a single command
@@ -64,3 +65,16 @@ writing-keeps p space n e = on-checks (partsRefusal p) e
     on-checks : (m : ℕ) → placed p space m .refusal ≡ suc n → placed p space m ≡ rejected (suc n) space
     on-checks zero e = room-kept space n (sessionBytes p) (ltb (length space) (length (sessionBytes p))) e
     on-checks (suc m) e = number-kept space n (suc m) e
+
+-- the trailer mender
+pub mending-keeps : (s : List ℕ) (n : ℕ) → mend s .refusal ≡ suc n → mend s ≡ unmended (suc n) s
+unfolding mend
+mending-keeps s n e = on-checks (untrailedRefusal s) e
+  where
+    on-search : (x : Search) → mendedBy s x .refusal ≡ suc n → mendedBy s x ≡ unmended (suc n) s
+    on-search nowhere e = ap (λ (r : ℕ). unmended r s) e
+    on-search (found i k) e = absurd (let z : ⊥ = omega arith in z)
+
+    on-checks : (m : ℕ) → searched s m .refusal ≡ suc n → searched s m ≡ unmended (suc n) s
+    on-checks zero e = on-search (smallestStart s) e
+    on-checks (suc m) e = ap (λ (r : ℕ). unmended r s) e

@@ -105,6 +105,19 @@ records-read (suc n) s i h e = go (λ m w q. records-read n s (i + m) w q) (next
         let r = ih m (next-within s i k m q .1) (rw (part-next s i m) e) in
         (k ∷ r .0, ap (more k) (r .1))
 
+-- ---- a session whose frame is well and whose records end at the trailer is refused for want of log space alone
+
+pub framed-passes : (s : List ℕ) → frame s ≡ 0 → (ks : List Instruction) → readFrom (countOf s) s (startOf s) ≡ all ks (recordsEnd (length s))
+    → (log : List ℕ) → run s log .refusal ≡ cond (ltb (length log) (logLength s)) noSpace 0
+unfolding run
+framed-passes s f ks r log =
+    rw (f, r, eq-eqb (recordsEnd (length s)) _ refl)
+    (go (ltb (length log) (fullEntries ks (initial s) + leastLog)) ∙ ap (λ (n : ℕ). cond (ltb (length log) n) noSpace 0) (full-length s ks _ r))
+  where
+    go : (t : Bool) → cond t (rejected noSpace log) (accepting (logOf s ks) log) .refusal ≡ cond t noSpace 0
+    go true = refl
+    go false = refl
+
 -- ---- the session
 
 module _ (p : Parts) (w : Writable p) where
@@ -127,10 +140,10 @@ module _ (p : Parts) (w : Writable p) where
   start-small : start < 256 ^ 4
   start-small = let l = session-length p in let h = w .short in omega arith
 
-  start-is : startOf s ≡ start
+  pub start-is : startOf s ≡ start
   start-is = ap startOf at-end ∙ ended-start front start (p .count) start-small
 
-  count-is : countOf s ≡ p .count
+  pub count-is : countOf s ≡ p .count
   count-is = ap countOf at-end ∙ ended-count front start (p .count) (let h = w .few in omega arith)
 
   card-is : cardOf s ≡ p .card
@@ -173,13 +186,4 @@ module _ (p : Parts) (w : Writable p) where
       (records-read (p .count) s start (let l = session-length p in omega arith) (rw part-is (w .well)))
 
   pub only-room : (log : List ℕ) → run s log .refusal ≡ cond (ltb (length log) (logLength s)) noSpace 0
-  unfolding run
-  only-room log =
-      let r = session-read in
-      rw (session-framed, r .1, eq-eqb (recordsEnd (length s)) _ refl)
-      (go (r .0) (ltb (length log) (fullEntries (r .0) (initial s) + leastLog)) ∙ ap (λ (n : ℕ). cond (ltb (length log) n) noSpace 0)
-      (full-length s (r .0) _ (r .1)))
-    where
-      go : (ks : List Instruction) (t : Bool) → cond t (rejected noSpace log) (accepting (logOf s ks) log) .refusal ≡ cond t noSpace 0
-      go ks true = refl
-      go ks false = refl
+  only-room = framed-passes s session-framed (session-read .0) (session-read .1)

@@ -19,6 +19,7 @@ pub enum Refusal {
     NoSuchAnswer,
     TitleLength,
     StagingBytes,
+    NoStart,
 }
 
 // The number of a refusal.
@@ -42,6 +43,7 @@ pub fn number(refusal: Refusal) -> u8
         Refusal::NoSuchAnswer => 14,
         Refusal::TitleLength => 15,
         Refusal::StagingBytes => 16,
+        Refusal::NoStart => 17,
     }
 }
 

@@ -14,3 +14,7 @@ commandResult refusal n tries kind = refusal + 2 ^ 8 * n + 2 ^ 24 * tries + 2 ^ 
 abbrev pub exportedAnswer : Found → ℕ
 exportedAnswer (missing n) = n
 exportedAnswer (located from n) = 2 ^ 8 * n + 2 ^ 40 * from
+
+-- the refusal's number, or 0, 2^8 times the count of the records and 2^32 times where they start
+abbrev pub mendResult : ℕ → ℕ → ℕ → ℕ
+mendResult refusal count start = refusal + 2 ^ 8 * count + 2 ^ 32 * start

@@ -1,10 +1,10 @@
 // The numbers that the exported functions give back.
 ghost use mathlib.Core.Path.{_≡_};
 ghost use Prim.Native.Nat.{_*_, _≤_, _^_};
-ghost use Rattle.model.specs.Sizes.{mostRecords};
+ghost use Rattle.model.specs.Sizes.{greatestSession, mostRecords};
 ghost use Rattle.model.specs.LogCheck.{located};
 ghost use Rattle.record.specs.RefusalNumber.{outcomeNumber};
-ghost use Rattle.results.specs.Results.{result, commandResult, exportedAnswer};
+ghost use Rattle.results.specs.Results.{result, commandResult, exportedAnswer, mendResult};
 use record::refusal::Outcome;
 use record::refusal::outcome_number;
 
@@ -38,4 +38,15 @@ pub fn answer_number(from: usize, length: usize) -> u64
     let start = from as u64;
     let long = length as u64;
     256 * long + 1099511627776 * start
+}
+
+// helper: the refusal's number, or 0, with 2^8 times a count and 2^32 times where the records start.
+pub fn mend_number(outcome: Outcome, count: usize, start: usize) -> u64
+    requires { ⌜ (count ≤ mostRecords) × (start ≤ greatestSession) ⌝ }
+    ensures { λ r. ⌜ r ≡ mendResult (outcomeNumber outcome) count start ⌝ }
+{
+    let refusal = outcome_number(outcome) as u64;
+    let many = count as u64;
+    let from = start as u64;
+    refusal + 256 * many + 4294967296 * from
 }

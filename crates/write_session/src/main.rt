@@ -2,23 +2,18 @@
 // digits, and the title, which may be left out. A refusal goes to standard error, and so does whatever else went wrong.
 ghost use Rattle.io.specs.Counts.{Counts};
 use crate::count::count_of;
-use crate::meaning::print_meaning;
-use io::print_decimal;
 use io::read_full;
 use io::write_all;
 use libc::ENAMETOOLONG;
-use libc::STDERR_FILENO;
 use libc::STDOUT_FILENO;
 use record::refusal::Outcome;
-use record::refusal::Refusal;
-use record::refusal::number;
+use refusal_text::print_refusal;
 use sizes::CARD;
 use sizes::GREATEST_SESSION;
 use sizes::INPUT;
 use writer::write_session;
 
 mod count;
-mod meaning;
 
 // The file that an argument names, open for reading; or a negative number, with the reason on standard error.
 fn open_named(argument: usize) -> i32 {
@@ -42,14 +37,6 @@ fn read_title(space: &mut [u8]) -> usize
     length
 }
 
-fn print_refusal(why: Refusal) {
-    write_all(STDERR_FILENO, b"write-session: refused ");
-    print_decimal(STDERR_FILENO, number(why) as u64);
-    write_all(STDERR_FILENO, b": ");
-    print_meaning(why);
-    write_all(STDERR_FILENO, b"\n");
-}
-
 // Both files are read with room for a byte more than is ever accepted, so that a longer one is seen to be longer.
 fn write_from(card_file: i32, records_file: i32, count: usize) {
     let mut card = [0u8; CARD + 1];
@@ -69,7 +56,7 @@ fn write_from(card_file: i32, records_file: i32, count: usize) {
     let size = written.size;
     let outcome = written.outcome;
     match outcome {
-        Outcome::Refused(why) => print_refusal(why),
+        Outcome::Refused(why) => print_refusal(b"write-session", why),
         Outcome::Accepted => {
             if !write_all(STDOUT_FILENO, &session[..size]) {
                 os::fail(b"standard output");

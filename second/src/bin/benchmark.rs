@@ -3,6 +3,7 @@
 //! The two take turns in several rounds; the best round of each counts. A ratio above 1 means that
 //! the proved library is the faster one. A record that makes the card busy is followed by a power
 //! cycle, which older libraries know too, or by a wait, unless the row is about busy cards.
+//! Rows of calls that take long have fewer rounds and tell milliseconds.
 
 #[path = "../../tests/proved/mod.rs"]
 mod proved;
@@ -13,19 +14,27 @@ use std::time::{Duration, Instant};
 use second::author::Author;
 use second::encoded;
 use second::gen::{self, Rng};
-use second::layout::MOST_RECORDS;
+use second::layout::{LONGEST_SESSION, MOST_RECORDS, SHORTEST_SESSION};
 use second::writer::{self, Parts};
 
 const ROUNDS: usize = 9;
 const ROUND: Duration = Duration::from_millis(40);
 
+/// The rounds of calls that take far longer than a round.
+const FEW_ROUNDS: usize = 3;
+
 type Run = fn(&[u8], &mut [u8]) -> u64;
 type Answer = fn(&[u8], u64) -> u64;
 type Write = fn(&[u8], &[u8], &[u8], u64, &mut [u8]) -> u64;
+type Mend = fn(&mut [u8]) -> u64;
 
 const RUNS: [Run; 2] = [proved::at88sc1608_run, encoded::at88sc1608_run];
 const ANSWERS: [Answer; 2] = [proved::at88sc1608_answer, encoded::at88sc1608_answer];
 const WRITES: [Write; 2] = [proved::at88sc1608_write_session, encoded::at88sc1608_write_session];
+
+/// The second implementation has one way, the proved library two.
+const MENDS: [Mend; 3] =
+    [proved::at88sc1608_mend, encoded::at88sc1608_mend, proved::at88sc1608_mend_by_search];
 
 /// Seconds per call of `work`, over some turns.
 fn seconds(turns: u32, mut work: impl FnMut()) -> f64 {
@@ -37,14 +46,23 @@ fn seconds(turns: u32, mut work: impl FnMut()) -> f64 {
 }
 
 /// Best seconds per call of the two sides of `work`.
-fn best(mut work: impl FnMut(usize)) -> [f64; 2] {
-    let turns = [0, 1].map(|side| {
-        let once = seconds(3, || work(side));
+fn best(work: impl FnMut(usize)) -> [f64; 2] {
+    best_of(ROUNDS, 3, work)
+}
+
+/// The same of more sides and of some rounds, after some calls that tell how many make a round.
+fn best_of<const SIDES: usize>(
+    rounds: usize,
+    calls: u32,
+    mut work: impl FnMut(usize),
+) -> [f64; SIDES] {
+    let turns: [u32; SIDES] = std::array::from_fn(|side| {
+        let once = seconds(calls, || work(side));
         (ROUND.as_secs_f64() / once).clamp(1.0, 1e7) as u32
     });
-    let mut best = [f64::INFINITY; 2];
-    for _ in 0..ROUNDS {
-        for side in 0..2 {
+    let mut best = [f64::INFINITY; SIDES];
+    for _ in 0..rounds {
+        for side in 0..SIDES {
             best[side] = best[side].min(seconds(turns[side], || work(side)));
         }
     }
@@ -55,6 +73,13 @@ fn row(name: &str, unit: &str, items: f64, [proved, second]: [f64; 2]) {
     let (proved, second) = (items / proved, items / second);
     let ratio = proved / second;
     println!("{name:<34} {unit:<10} {proved:>14.0} {second:>14.0} {ratio:>7.2}");
+}
+
+/// The row of a call that takes long.
+fn slow_row(name: &str, [proved, second]: [f64; 2]) {
+    let ratio = second / proved;
+    let (proved, second) = (1e3 * proved, 1e3 * second);
+    println!("{name:<34} {:<10} {proved:>14.3} {second:>14.3} {ratio:>7.1}", "ms a call");
 }
 
 fn count(session: &[u8]) -> u64 {
@@ -108,6 +133,33 @@ fn written(name: &str, session: &[u8], space: &mut [u8]) {
         assert_eq!(black_box(result) & 0xFF, 0);
     });
     row(name, "sessions", 1.0, time);
+}
+
+/// Mends a session, and what is mended again: its trailer plays no part.
+fn mended(name: &str, mut session: Vec<u8>) {
+    let time = best(|side| {
+        assert_eq!(black_box(MENDS[side](black_box(&mut session))) & 0xFF, 0);
+    });
+    row(name, "sessions", 1.0, time);
+}
+
+/// The same of a session that is searched long, by the proved library in both ways.
+fn searched(name: &str, mut session: Vec<u8>) {
+    let [proved, second, by_search] = best_of(FEW_ROUNDS, 1, |side| {
+        assert_eq!(black_box(MENDS[side](black_box(&mut session))) & 0xFF, 0);
+    });
+    slow_row(name, [proved, second]);
+    slow_row("the same by the two-loop search", [by_search, second]);
+}
+
+/// The longest session: all its bytes are records, of any of the shortest kinds, but for one before
+/// the last. From every start but the last one as many are read as may be, in vain.
+fn longest_search() -> Vec<u8> {
+    let mut rng = Rng::new(2024);
+    let last = [0xFF, 8];
+    let short = |_| rng.pick(&[1, 2, 8, 9, 11, 14]);
+    let records: Vec<u8> = (SHORTEST_SESSION + last.len()..LONGEST_SESSION).map(short).collect();
+    Author::new(0).text(&records).record(&last).session()
 }
 
 /// 200 sessions of 60 records each, chosen one after the other by `next`.
@@ -170,4 +222,6 @@ fn main() {
     log_reads("log reads, most met while busy", &met_busy, &mut log);
     written("4,096 short records, written", &short, &mut log);
     written("60 records of a mix, written", &waiting[0], &mut log);
+    mended("60 records of a mix, mended", waiting[0].clone());
+    searched("65,536 bytes mended, worst case", longest_search());
 }

@@ -3,6 +3,7 @@
 //! Whatever is lent lies between guard bytes. A difference ends the test and prints the input.
 
 use second::encoded;
+use second::layout::TRAILER;
 use second::writer::Parts;
 
 use crate::proved;
@@ -153,4 +154,19 @@ pub fn write_session(seed: &str, input: Parts, space: &[u8]) -> (u64, Vec<u8>) {
     let length = (proved >> 8) as usize;
     assert!(written.bytes()[length..] == space[length..], "slack is kept");
     (proved, written.bytes().to_vec())
+}
+
+/// A trailer mended by both, by the proved library in two ways; answers the result and the session.
+pub fn mend(seed: &str, session: &[u8]) -> (u64, Vec<u8>) {
+    let [mut p, mut b, mut s] = [session; 3].map(Lent::new);
+    let proved = proved::at88sc1608_mend(p.bytes());
+    let by_search = proved::at88sc1608_mend_by_search(b.bytes());
+    let second = encoded::at88sc1608_mend(s.bytes());
+    let input = [("session", session)];
+    agree(seed, "at88sc1608_mend", &input, (proved, second), &[(&p, &s)]);
+    agree(seed, "at88sc1608_mend_by_search", &input, (by_search, second), &[(&b, &s)]);
+    untouched(proved, &[session], &mut [&mut p]);
+    let before = session.len().saturating_sub(TRAILER);
+    assert!(p.bytes()[..before] == session[..before], "what is before the trailer is kept");
+    (proved, p.bytes().to_vec())
 }

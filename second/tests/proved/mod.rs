@@ -29,6 +29,10 @@ extern "C" {
         session: *mut u8,
         session_len: usize,
     ) -> u64;
+    #[link_name = "at88sc1608_mend"]
+    fn linked_mend(session: *mut u8, session_len: usize) -> u64;
+    #[link_name = "at88sc1608_mend_by_search"]
+    fn linked_mend_by_search(session: *mut u8, session_len: usize) -> u64;
 }
 
 pub fn at88sc1608_run(session: &[u8], log: &mut [u8]) -> u64 {
@@ -84,4 +88,15 @@ pub fn at88sc1608_write_session(
             session.len(),
         )
     }
+}
+
+pub fn at88sc1608_mend(session: &mut [u8]) -> u64 {
+    // Sound as long as the library stays within the lengths it is given.
+    unsafe { linked_mend(session.as_mut_ptr(), session.len()) }
+}
+
+/// The same answer by trying every start in turn.
+pub fn at88sc1608_mend_by_search(session: &mut [u8]) -> u64 {
+    // Sound as long as the library stays within the lengths it is given.
+    unsafe { linked_mend_by_search(session.as_mut_ptr(), session.len()) }
 }

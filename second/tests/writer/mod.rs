@@ -105,7 +105,7 @@ fn expect(seed: &str, input: Parts, refusal: u64) {
 }
 
 /// A card, a title and records of every kind.
-fn every_kind() -> Author {
+pub fn every_kind() -> Author {
     Author::new(6)
         .text(b"Every kind")
         .reset()

@@ -51,6 +51,9 @@ write-session-requires c κs = search needs
 enum-known-outcome : tie.Need-enum-known-outcome
 enum-known-outcome c = search needs
 
+slice-aggregate-print-refusal : tie.Need-slice-aggregate-print-refusal
+slice-aggregate-print-refusal c = search needs
+
 print-refusal-requires : tie.Need-print-refusal-requires
 print-refusal-requires c κs = search needs
 
@@ -101,6 +104,7 @@ write-from-spec =
     slice-aggregate-write-session-4
     write-session-requires
     enum-known-outcome
+    slice-aggregate-print-refusal
     print-refusal-requires
     enum-told
     array-share-prefix-session

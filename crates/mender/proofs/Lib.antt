@@ -1,0 +1,4 @@
+mod PartLaws
+mod SearchLaws
+mod TableLaws
+mod MendingLaws
