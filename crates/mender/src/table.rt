@@ -30,7 +30,7 @@ fn one_more(others: u16) -> u16
     others + 1
 }
 
-// helper: the count from a place on, from the counts behind it.
+// The count from a place on, from the counts behind it.
 fn count_at(session: &[u8], at: usize, end: usize, counts: &[u16]) -> u16
     requires { ⌜ (at ≤ end) × (end ≡ recordsEnd (length (now session))) × (length (now counts) ≡ window) ⌝ }
     ensures { λ r. ⌜ r ≡ tabled (now (session .entry)) (now (counts .entry)) at ⌝ }
