@@ -1,32 +1,7 @@
 #!/usr/bin/env bash
-# The program on sessions at the edges of what is accepted, and one step beyond each edge. The second implementation makes the
-# sessions (second/src/edges.rs) and writes the listing of each; the program has to print the same, from a file and from a pipe.
-set -euo pipefail
-top=$(cd "$(dirname "${BASH_SOURCE[0]}")/.." && pwd)
-work=$(mktemp -d)
-trap 'rm -rf "$work"' EXIT
-
-fail() {
-    echo "edges: $1" >&2
-    exit 1
-}
-
-(cd "$top/second" && cargo build --release --offline --quiet --bin write-edges) || fail "the sessions' writer was not built"
-"$top/target/second/release/write-edges" "$work"
-
-edge() { # NAME, BYTES of the session; LINES, BYTES and END.., the last lines, of its listing
-    local session=$work/$1.session listing=$work/$1.txt sizes end
-    [ "$(wc -c <"$session")" -eq "$2" ] || fail "$1: the session has $(wc -c <"$session") bytes, not $2"
-    "$top/simulate" "$session" >"$work/from-file" || fail "$1: the program ended with status $?"
-    # shellcheck disable=SC2002
-    cat "$session" | "$top/simulate" >"$work/from-pipe" || fail "$1: a pipe into the program failed"
-    cmp "$work/from-file" "$listing" >&2 || fail "$1: the program and the second implementation differ"
-    cmp "$work/from-pipe" "$listing" >&2 || fail "$1: the program and the second implementation differ on a pipe"
-    sizes=$(wc -lc <"$listing" | awk '{ print $1, $2 }')
-    [ "$sizes" = "$3 $4" ] || fail "$1: the listing has $sizes lines and bytes, not $3 $4"
-    end=$(tail -n $(($# - 4)) "$listing")
-    [ "$end" = "$(printf '%s\n' "${@:5}")" ] || fail "$1: the listing ends in '$end', not '${*:5}'"
-}
+# The program on sessions at the edges of what is accepted, and one step beyond each edge, against the second implementation's listings.
+test_name=edges
+. "$(dirname "${BASH_SOURCE[0]}")/listings.sh"
 
 edge empty 0 1 10 'refused 1'
 edge below-least 2196 1 10 'refused 1'

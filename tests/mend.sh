@@ -4,6 +4,7 @@
 # called with.
 name=mend
 . "$(dirname "${BASH_SOURCE[0]}")/program.sh"
+built "$name"
 
 on() { # STATUS FILE: the same, and the file is kept
     cp "$2" before

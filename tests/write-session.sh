@@ -3,6 +3,7 @@
 # edges of every part and beyond them. Then what it says of itself, and what it was wrongly called with.
 name=write-session
 . "$(dirname "${BASH_SOURCE[0]}")/program.sh"
+built "$name"
 
 accepted() { # CARD RECORDS COUNT [TITLE]
     called 0 "$@"

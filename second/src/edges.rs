@@ -1,9 +1,11 @@
-//! Sessions at the edges of what is accepted, and one step beyond each edge.
+//! Sessions at the edges of what is accepted, and one step beyond each edge; and the same for the
+//! box.
 
 use crate::author::Author;
 use crate::layout::{
-    CONFIGURATION, ENTRY_HEADER, FLAG, FUSES, LOG_SPACE, LONGEST_SESSION, MOST_RECORDS,
-    MOST_STAGED, SHORTEST_LOG, STAGED_LENGTH, STAGED_ZONE, ZONE, ZONES,
+    BOX_LONGEST_SESSION, BOX_MOST_RECORDS, CONFIGURATION, ENTRY_HEADER, FLAG, FUSES, LOG_SPACE,
+    LONGEST_SESSION, MOST_RECORDS, MOST_STAGED, SHORTEST_LOG, STAGED_LENGTH, STAGED_ZONE, TRAILER,
+    ZONE, ZONES,
 };
 use crate::session;
 use crate::staging::READY;
@@ -134,4 +136,58 @@ pub fn all() -> Vec<(&'static str, Vec<u8>)> {
         ("ready-length-more", other(STAGED_LENGTH, MOST_STAGED as u8 + 1)),
         ("flag-below-ready", other(FLAG, READY - 1)),
     ]
+}
+
+/// So many records of the kinds in turn.
+fn in_turn(count: u16) -> Author {
+    (0..count).fold(marked(), kind_in_turn)
+}
+
+/// The session with one byte of its trailer changed, counted from the end.
+fn changed(author: Author, from_end: usize, byte: u8) -> Vec<u8> {
+    let mut session = author.session();
+    let at = session.len() - from_end;
+    session[at] = byte;
+    session
+}
+
+/// Adds a last record, and makes a session with one fault.
+type Fault = fn(Author) -> Vec<u8>;
+
+/// Names and sessions with a fault each, of as many records as the box takes and of one more.
+fn faults_in_the_box() -> impl Iterator<Item = (&'static str, Vec<u8>)> {
+    let faults: [(&str, &str, Fault); 8] = [
+        ("box-mark", "box-mark-and-more", |a| changed(a.poll(), 1, 0)),
+        ("box-start", "box-start-and-more", |a| changed(a.poll(), TRAILER, 0)),
+        ("box-fuses", "box-fuses-and-more", |a| a.poll().put(FUSES, &[5]).session()),
+        ("box-flag", "box-flag-and-more", |a| a.poll().put(FLAG, &[READY - 1]).session()),
+        ("box-kind", "box-kind-and-more", |a| a.record(&[17]).session()),
+        ("box-field", "box-field-and-more", |a| a.select(ZONES as u8).session()),
+        ("box-cut-short", "box-cut-short-and-more", |a| a.record(&[3]).session()),
+        ("box-bytes-left", "box-bytes-left-and-more", |a| a.record(&[8, 0]).session()),
+    ];
+    faults.into_iter().flat_map(|(most, more, fault)| {
+        [(most, fault(in_turn(BOX_MOST_RECORDS - 1))), (more, fault(in_turn(BOX_MOST_RECORDS)))]
+    })
+}
+
+/// Names and sessions at the edges of what the box takes.
+pub fn of_the_box() -> Vec<(&'static str, Vec<u8>)> {
+    let [most, more] = [BOX_MOST_RECORDS, BOX_MOST_RECORDS + 1].map(in_turn);
+    let busy = (0..BOX_MOST_RECORDS).fold(marked(), busy_in_turn);
+    let reads = marked().times(BOX_MOST_RECORDS.into(), |a| a.read(0x80, 0));
+    let polls = |count: u16| Author::new(7).times(count.into(), Author::poll).session();
+    let sessions = [
+        ("box-greatest", padded(most.clone(), BOX_LONGEST_SESSION)),
+        ("box-byte-more", padded(most.clone(), BOX_LONGEST_SESSION + 1)),
+        ("box-byte-more-fuses", padded(most.put(FUSES, &[5]), BOX_LONGEST_SESSION + 1)),
+        ("box-record-more", padded(more.clone(), BOX_LONGEST_SESSION)),
+        ("box-both-more", padded(more, BOX_LONGEST_SESSION + 1)),
+        ("box-busy-greatest", padded(busy, BOX_LONGEST_SESSION)),
+        // No record answers more than a read of a whole zone.
+        ("box-longest-listing", reads.session()),
+        ("box-4096-records", polls(MOST_RECORDS)),
+        ("box-4097-records", polls(MOST_RECORDS + 1)),
+    ];
+    sessions.into_iter().chain(faults_in_the_box()).collect()
 }

@@ -1,7 +1,8 @@
 //! The public calls with the results of the C interface.
 
+use crate::log::{self, Fetched};
 use crate::mender::{self, Mended};
-use crate::{command, log, refusal::Refusal, session, writer};
+use crate::{command, refusal::Refusal, session, writer};
 
 /// The result of an accepted call, or the refusal's number alone.
 fn pack(result: Result<u64, Refusal>) -> u64 {
@@ -11,6 +12,11 @@ fn pack(result: Result<u64, Refusal>) -> u64 {
 /// Refusal + 2^8 · log length.
 pub fn at88sc1608_run(session: &[u8], log: &mut [u8]) -> u64 {
     pack(session::run(session, log).map(|length| (length as u64) << 8))
+}
+
+/// The same in the box.
+pub fn at88sc1608_box_run(session: &[u8], log: &mut [u8]) -> u64 {
+    pack(session::box_run(session, log).map(|length| (length as u64) << 8))
 }
 
 /// Refusal + 2^8 · response length + 2^24 · tries left + 2^32 · the kind as it is answered.
@@ -26,10 +32,15 @@ pub fn at88sc1608_command(
     }))
 }
 
-/// Refusal + 2^8 · response length + 2^40 · its offset in the log.
+/// Refusal + 2^8 · response length + 2^24 · headers read + 2^40 · the response's offset in the log;
+/// where there is no such answer, the headers all the same.
 pub fn at88sc1608_answer(log: &[u8], number: u64) -> u64 {
-    let found = log::find(log, number);
-    pack(found.map(|response| (response.len() as u64) << 8 | (response.start as u64) << 40))
+    pack(log::fetch(log, number).map(|Fetched { response, headers }| {
+        let found = response
+            .map(|response| (response.len() as u64) << 8 | (response.start as u64) << 40)
+            .ok_or(Refusal::NoSuchAnswer);
+        pack(found) | u64::from(headers) << 24
+    }))
 }
 
 /// Refusal + 2^8 · session length.

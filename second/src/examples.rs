@@ -253,6 +253,36 @@ pub fn lost() -> Vec<u8> {
     session
 }
 
+fn practice() -> Author {
+    let written = |author: Author, byte| author.write(0x00, &[byte]).ready().read(0x00, 1);
+    let author = Author::new(0)
+        .text(b"A ticket for eight visits: each clears a bit, and no write sets one again.\n")
+        // Write password 3 alone lets a write in, and bits are only cleared.
+        .put_register(2, 0b0110_1110)
+        .select(2)
+        .read(0x00, 1);
+    let author = written(author, 0xFE).right(3).ready();
+    let visits = [0xFE, 0xFC, 0xF8, 0xF0, 0xE0, 0xC0, 0x80, 0x00];
+    written(visits.into_iter().fold(author, written), 0xFF)
+}
+
+fn exam() -> Author {
+    Author::new(0)
+        .text(b"Each zone opens to its own password: 65 records, one more than the box takes.\n")
+        .each_zone(|a, zone| a.put_register(zone.into(), 0b0010_0011 | zone << 2))
+        .each_zone(|a, zone| {
+            let closed = a.select(zone).read(0x00, 4);
+            let opened = closed.right(zone).ready().write(0x00, &[b'0' + zone; 4]).ready();
+            opened.read(0x00, 4).power()
+        })
+        .read(0x00, 4)
+}
+
+/// Names and sessions of those that are listed for the box too.
+pub fn for_the_box() -> [(&'static str, Vec<u8>); 2] {
+    [("practice", practice()), ("exam", exam())].map(|(name, author)| (name, author.session()))
+}
+
 /// Names and sessions.
 pub fn all() -> Vec<(&'static str, Vec<u8>)> {
     let paper = printed().text(b"The example printed in the paper.\n");
@@ -275,5 +305,6 @@ pub fn all() -> Vec<(&'static str, Vec<u8>)> {
     .map(|(name, author)| (name, author.session()))
     .into_iter()
     .chain([("written", written), ("lost", lost()), ("mended", mended)])
+    .chain(for_the_box())
     .collect()
 }

@@ -467,10 +467,25 @@ pub fn session_of(
     session
 }
 
+/// The start and the count that a trailer tells.
+fn told(session: &[u8]) -> (u32, u16) {
+    let trailer = &session[session.len() - TRAILER..];
+    let start = u32::from_le_bytes([trailer[0], trailer[1], trailer[2], trailer[3]]);
+    (start, u16::from_le_bytes([trailer[4], trailer[5]]))
+}
+
 fn set_trailer(session: &mut [u8], start: u32, count: u16) {
     let at = session.len() - TRAILER;
     session[at..at + 4].copy_from_slice(&start.to_le_bytes());
     session[at + 4..at + 6].copy_from_slice(&count.to_le_bytes());
+}
+
+/// Gives a sound session as much more free text as makes it this long, unless it is longer.
+pub fn lengthen(rng: &mut Rng, session: &mut Vec<u8>, length: usize) {
+    let (start, count) = told(session);
+    let more = length.saturating_sub(session.len());
+    session.splice(start as usize..start as usize, rng.bytes(more));
+    set_trailer(session, start + more as u32, count);
 }
 
 /// Gives a session a trailer that is not its own: other bytes, or one thing in it wrong.
@@ -499,8 +514,7 @@ pub fn damaged_session(rng: &mut Rng, session: &[u8]) -> Vec<u8> {
 
 fn damage(rng: &mut Rng, bytes: &mut Vec<u8>) {
     let end = bytes.len() - TRAILER;
-    let start = u32::from_le_bytes([bytes[end], bytes[end + 1], bytes[end + 2], bytes[end + 3]]);
-    let count = u16::from_le_bytes([bytes[end + 4], bytes[end + 5]]);
+    let (start, count) = told(bytes);
     let records = end.saturating_sub(start as usize);
     match rng.below(13) {
         0 => bytes.truncate(rng.below(bytes.len())),

@@ -39,6 +39,10 @@ pub const MOST_RECORDS: u16 = 4096;
 pub const SHORTEST_SESSION: usize = CARD + TRAILER;
 pub const LONGEST_SESSION: usize = 65_536;
 
+/// The longest session that the box takes, and the most records of one.
+pub const BOX_LONGEST_SESSION: usize = 4096;
+pub const BOX_MOST_RECORDS: u16 = 64;
+
 /// The longest title that the writer takes.
 pub const LONGEST_TITLE: usize = 255;
 

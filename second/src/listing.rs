@@ -13,9 +13,22 @@ use crate::session;
 /// The most bytes that are worth reading: one more than a session may have.
 pub const READ_LIMIT: usize = LONGEST_SESSION + 1;
 
+/// What runs a session into its log.
+type Run = fn(&[u8], &mut [u8]) -> Result<usize, Refusal>;
+
+/// The listing of a session as an exam machine runs it.
 pub fn listing(session: &[u8]) -> String {
+    listing_by(session::run, session)
+}
+
+/// The listing of a session as the box runs it.
+pub fn box_listing(session: &[u8]) -> String {
+    listing_by(session::box_run, session)
+}
+
+fn listing_by(run: Run, session: &[u8]) -> String {
     let mut log = vec![0; LOG_SPACE];
-    session::run(session, &mut log)
+    run(session, &mut log)
         .and_then(|length| lines(&log[..length]))
         .unwrap_or_else(|refusal| format!("refused {}\n", refusal.number()))
 }
@@ -27,6 +40,14 @@ pub fn write_into(directory: &Path, sessions: &[(&str, Vec<u8>)]) -> io::Result<
         let file = directory.join(name);
         fs::write(file.with_extension("session"), session)?;
         fs::write(file.with_extension("txt"), listing(session))?;
+    }
+    Ok(())
+}
+
+/// Writes the listing that the box gives for each of some named sessions beside it.
+pub fn write_for_the_box(directory: &Path, sessions: &[(&str, Vec<u8>)]) -> io::Result<()> {
+    for (name, session) in sessions {
+        fs::write(directory.join(name).with_extension("box.txt"), box_listing(session))?;
     }
     Ok(())
 }

@@ -143,16 +143,32 @@ impl<'a> Log<'a> {
     }
 }
 
+/// What a walk through a whole log brings back.
+#[derive(Clone, Debug, PartialEq, Eq)]
+pub struct Fetched {
+    /// Where the wanted answer lies, if there is one of that number.
+    pub response: Option<Range<usize>>,
+    /// How many entry headers were read.
+    pub headers: u16,
+}
+
+/// Checks the whole log in one walk and keeps answer `number` on the way.
+pub fn fetch(log: &[u8], number: u64) -> Result<Fetched, Refusal> {
+    let mut response = None;
+    let mut headers = 0;
+    for entry in Log::open(log)?.entries() {
+        let entry = entry?;
+        if u64::from(headers) == number {
+            response = Some(entry.response);
+        }
+        headers += 1;
+    }
+    Ok(Fetched { response, headers })
+}
+
 /// Checks the whole log and tells where answer `number` lies in it.
 pub fn find(log: &[u8], number: u64) -> Result<Range<usize>, Refusal> {
-    let mut found = None;
-    for (k, entry) in (0..).zip(Log::open(log)?.entries()) {
-        let entry = entry?;
-        if k == number {
-            found = Some(entry.response);
-        }
-    }
-    found.ok_or(Refusal::NoSuchAnswer)
+    fetch(log, number)?.response.ok_or(Refusal::NoSuchAnswer)
 }
 
 /// Checks the whole log and hands back answer `number` as a part of it.

@@ -20,6 +20,7 @@ pub enum Refusal {
     TitleLength = 15,
     Staging = 16,
     NoStart = 17,
+    BoxLimits = 18,
 }
 
 impl Refusal {

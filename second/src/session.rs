@@ -2,7 +2,10 @@
 
 use crate::busy;
 use crate::card::{self, Card};
-use crate::layout::{CARD, LONGEST_SESSION, MOST_RECORDS, SHORTEST_LOG, SHORTEST_SESSION, TRAILER};
+use crate::layout::{
+    BOX_LONGEST_SESSION, BOX_MOST_RECORDS, CARD, LONGEST_SESSION, MOST_RECORDS, SHORTEST_LOG,
+    SHORTEST_SESSION, TRAILER,
+};
 use crate::log;
 use crate::record::Reader;
 use crate::refusal::Refusal;
@@ -33,8 +36,23 @@ pub fn first_card(session: &[u8]) -> Result<&Card, Refusal> {
     session.first_chunk().ok_or(Refusal::SessionLength)
 }
 
-/// Checks a session whole, its records included.
+/// Whether the box takes a session of this length with so many records.
+fn fits_box(length: usize, count: u16) -> bool {
+    length <= BOX_LONGEST_SESSION && count <= BOX_MOST_RECORDS
+}
+
+/// An exam machine takes every session that there may be.
+fn fits_exam(_length: usize, _count: u16) -> bool {
+    true
+}
+
+/// Checks a session whole, its records included, as an exam machine does.
 pub fn check(session: &[u8]) -> Result<Checked, Refusal> {
+    check_if(session, fits_exam)
+}
+
+/// The same of a machine that takes what `fits`.
+fn check_if(session: &[u8], fits: impl Fn(usize, u16) -> bool) -> Result<Checked, Refusal> {
     if !(SHORTEST_SESSION..=LONGEST_SESSION).contains(&session.len()) {
         return Err(Refusal::SessionLength);
     }
@@ -51,6 +69,9 @@ pub fn check(session: &[u8]) -> Result<Checked, Refusal> {
     if count > MOST_RECORDS {
         return Err(Refusal::Count);
     }
+    if !fits(session.len(), count) {
+        return Err(Refusal::BoxLimits);
+    }
     card::check(first_card(session)?)?;
     let mut reader = Reader::new(session, start);
     let mut entries = 0;
@@ -64,9 +85,22 @@ pub fn check(session: &[u8]) -> Result<Checked, Refusal> {
     Ok(Checked { start, count, log_space: entries + SHORTEST_LOG })
 }
 
-/// Runs a session and answers how many bytes of `log` it wrote.
+/// Runs a session on an exam machine and answers how many bytes of `log` it wrote.
 pub fn run(session: &[u8], log: &mut [u8]) -> Result<usize, Refusal> {
-    let Checked { start, count, log_space } = check(session)?;
+    run_if(session, log, fits_exam)
+}
+
+/// The same in the box.
+pub fn box_run(session: &[u8], log: &mut [u8]) -> Result<usize, Refusal> {
+    run_if(session, log, fits_box)
+}
+
+fn run_if(
+    session: &[u8],
+    log: &mut [u8],
+    fits: impl Fn(usize, u16) -> bool,
+) -> Result<usize, Refusal> {
+    let Checked { start, count, log_space } = check_if(session, fits)?;
     let log = log.get_mut(..log_space).ok_or(Refusal::Space)?;
     // What the card does not heed makes the log shorter, so its final card has no place yet.
     let mut card = *first_card(session)?;

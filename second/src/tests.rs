@@ -1,8 +1,9 @@
 //! What the paper says in so many words: cases A–L, the edges, the printed example, each refusal
 //! by its number, the tries left, what closed bytes show, and the mistakes that are easily made.
-//! What is said of a busy card, of staged writes, of the zones in a log, of the session writer and
-//! of the mender has files of its own.
+//! What is said of a busy card, of staged writes, of the zones in a log, of the session writer, of
+//! the mender and of the box has files of its own.
 
+mod boxed;
 mod busy;
 mod mender;
 mod staging;
@@ -606,9 +607,9 @@ fn log_answers() {
     for number in [3, 1 << 32, u64::MAX] {
         assert_eq!(log::answer(log, number), Err(Refusal::NoSuchAnswer));
     }
-    assert_eq!(encoded::at88sc1608_answer(log, 2), 4 << 8 | 10 << 40);
-    assert_eq!(encoded::at88sc1608_answer(log, 1), 7 << 40);
-    assert_eq!(encoded::at88sc1608_answer(log, 3), 14);
+    assert_eq!(encoded::at88sc1608_answer(log, 2), 4 << 8 | 3 << 24 | 10 << 40);
+    assert_eq!(encoded::at88sc1608_answer(log, 1), 3 << 24 | 7 << 40);
+    assert_eq!(encoded::at88sc1608_answer(log, 3), 14 | 3 << 24);
     assert_eq!(log::answer(&log[..n - 1], 9), Err(Refusal::Log));
     // A fault in the last entry counts for answer 0 too.
     let mut damaged = log.to_vec();

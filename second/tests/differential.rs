@@ -1,9 +1,11 @@
 //! The proved library against the second implementation: every small case in turn, then lists of
-//! commands, sessions, log reads, written and mended sessions from the seeded generator.
+//! commands, sessions on exam machines and in the box, log reads, written and mended sessions from
+//! the seeded generator.
 //!
 //! A failure prints its seed; `SEED=n` runs the generated tests with that seed alone.
 
 mod both;
+mod boxed;
 mod busy;
 mod mender;
 mod proved;

@@ -54,7 +54,8 @@ outcomeFrom n =
     (cond (eqb n 12) refusal.StateOutOfRange
     (cond (eqb n 13) refusal.NotALog
     (cond (eqb n 14) refusal.NoSuchAnswer
-    (cond (eqb n 15) refusal.TitleLength (cond (eqb n 16) refusal.StagingBytes refusal.NoStart)))))))))))))))))
+    (cond (eqb n 15) refusal.TitleLength
+    (cond (eqb n 16) refusal.StagingBytes (cond (eqb n 17) refusal.NoStart refusal.BoxLimits))))))))))))))))))
 
 active-back : (a : Active) → activeFrom (activeOf a) ≡ a
 active-back active.None = refl
@@ -87,6 +88,7 @@ refused-back refusal.NoSuchAnswer = refl
 refused-back refusal.TitleLength = refl
 refused-back refusal.StagingBytes = refl
 refused-back refusal.NoStart = refl
+refused-back refusal.BoxLimits = refl
 
 outcome-back : (o : Outcome) → outcomeFrom (outcomeNumber o) ≡ o
 outcome-back outcome.Accepted = refl

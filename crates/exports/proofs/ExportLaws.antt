@@ -1,5 +1,5 @@
 -- The exported calls, from what the functions that they call give back.
-use Prim.Native.Nat.{ℕ, suc, _≤_, _^_}
+use Prim.Native.Nat.{ℕ, suc, _*_, _≤_, _^_}
 use mathlib.Core.Bool.{Bool, true, false, cond, not}
 use mathlib.Core.List.{List}
 use mathlib.Core.Path.{_≡_, refl, sym, ap, _∙_}
@@ -11,15 +11,18 @@ use Rattle.model.specs.Lists.{at, Bytes}
 use Rattle.model.specs.Call.{Called, calling}
 use Rattle.model.specs.Call as calls
 use Rattle.model.specs.Refusal.{cardLength, fuseByte, stagingBytes, stateOutOfRange}
+use Rattle.model.specs.Box.{boxRun}
+use Rattle.model.specs.LogCheck.{Found, located, Fetched, find, fetch}
 use Rattle.model.specs.Session.{Ran, run}
 use Rattle.model.specs.Single.{isFuseByte, stagingFits, checkOf, check, command}
 use Rattle.model.specs.State.{State}
 use Rattle.model.specs.Writer.{Parts, writeSession}
 use Rattle.model.specs.Mender.{Mended, mend}
-use Rattle.exports.specs.Exports.{runCall, toldRun, exportedRun, commandCall, toldCommand, exportedCommand, exportedWriting}
-use Rattle.exports.specs.Exports.{toldMending, exportedMending}
+use Rattle.properties.specs.HeadersRead.{fetched-found, headers-most}
+use Rattle.exports.specs.Exports.{runCall, toldRun, exportedRun, exportedBoxRun, commandCall, toldCommand, exportedCommand, toldAnswer}
+use Rattle.exports.specs.Exports.{exportedAnswer, exportedWriting, toldMending, exportedMending}
 use Rattle.results.specs.Results.{result, commandResult, mendResult}
-use Rattle.exports.specs.Lengths.{response-small, run-small, writing-small, mending-small}
+use Rattle.exports.specs.Lengths.{response-small, run-small, box-run-small, answer-small, writing-small, mending-small}
 use Rattle.state_bytes.specs.StateBytes.{isState, stateOf, stateAfter}
 use Rattle.state_bytes.specs.StateLaws.{state-long, state-range}
 
@@ -31,6 +34,30 @@ module _ (s space : List ℕ) (x : Ran) (ran : x ≡ run s space) where
 
   pub run-told : (r : ℕ) → r ≡ result (x .refusal) (x .size) → runCall r (x .space) ≡ exportedRun s space
   run-told r e = ap (λ (n : ℕ). runCall n (x .space)) e ∙ ap toldRun ran
+
+-- ---- a session in the box
+
+module _ (s space : List ℕ) (x : Ran) (ran : x ≡ boxRun s space) where
+  pub box-log-fits : Bytes s → x .size ≤ 2 ^ 32
+  box-log-fits b = let e = ap (λ (y : Ran). y .size) ran in let h = box-run-small s space b in omega arith
+
+  pub box-run-told : (r : ℕ) → r ≡ result (x .refusal) (x .size) → runCall r (x .space) ≡ exportedBoxRun s space
+  box-run-told r e = ap (λ (n : ℕ). runCall n (x .space)) e ∙ ap toldRun ran
+
+-- ---- an answer
+
+module _ (l : List ℕ) (k : ℕ) (x : Fetched) (fetches : x ≡ fetch l k) (f : Found) (found : x .found ≡ f) where
+  finds : find l k ≡ f
+  finds = sym (fetched-found l k) ∙ ap (λ (y : Fetched). y .found) (sym fetches) ∙ found
+
+  pub headers-fit : x .headers ≤ mostRecords
+  headers-fit = let e = ap (λ (y : Fetched). y .headers) fetches in let h = headers-most l k in omega arith
+
+  pub answer-fits : (from n : ℕ) → f ≡ located from n → (n ≤ 256) × (x .headers ≤ mostRecords) × (from ≤ 260 * mostRecords)
+  answer-fits from n e = let s = answer-small l k from n (finds ∙ e) in (s .0, headers-fit, s .1)
+
+  pub answer-told : (r : ℕ) → r ≡ toldAnswer f (x .headers) → r ≡ exportedAnswer (fetch l k)
+  answer-told r e = e ∙ ap (λ (g : Found). toldAnswer g (x .headers)) (sym found) ∙ ap exportedAnswer fetches
 
 -- ---- a command
 

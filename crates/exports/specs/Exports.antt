@@ -1,14 +1,16 @@
--- What the exported functions give back and leave, in the model's terms. What `at88sc1608_answer` gives back is `Results.exportedAnswer`.
+-- What the exported functions give back and leave, in the model's terms.
 use Prim.Native.Nat.{ℕ}
 use mathlib.Core.List.{List}
 use Rattle.model.specs.Call.{Called, calling}
+use Rattle.model.specs.Box.{boxRun}
+use Rattle.model.specs.LogCheck.{Found, missing, located, Fetched}
 use Rattle.model.specs.Session.{Ran, run}
 use Rattle.model.specs.Single.{command}
 use Rattle.model.specs.State.{State}
 use Rattle.model.specs.Writer.{Parts, writeSession}
 use Rattle.model.specs.Mender.{Mended, mend}
 use Rattle.state_bytes.specs.StateBytes.{stateOf, stateAfter}
-use Rattle.results.specs.Results.{result, commandResult, mendResult}
+use Rattle.results.specs.Results.{result, commandResult, answerResult, mendResult}
 
 -- ---- at88sc1608_run
 
@@ -27,6 +29,11 @@ toldRun x = runCall (result (x .refusal) (x .size)) (x .space)
 -- of a session and a log space
 abbrev pub exportedRun : List ℕ → List ℕ → RunCall
 exportedRun session log = toldRun (run session log)
+
+-- ---- at88sc1608_box_run
+
+abbrev pub exportedBoxRun : List ℕ → List ℕ → RunCall
+exportedBoxRun session log = toldRun (boxRun session log)
 
 -- ---- at88sc1608_command
 
@@ -49,6 +56,16 @@ toldCommand state x =
 -- of a card, a state's bytes, a record and a response space
 abbrev pub exportedCommand : List ℕ → List ℕ → List ℕ → List ℕ → CommandCall
 exportedCommand card state sent response = toldCommand state (command card (stateOf state) (calling sent response))
+
+-- ---- at88sc1608_answer
+
+-- what is told of a refusal or of an answer, with the headers that were read
+abbrev pub toldAnswer : Found → ℕ → ℕ
+toldAnswer (missing n) headers = answerResult n 0 headers 0
+toldAnswer (located from n) headers = answerResult 0 n headers from
+
+abbrev pub exportedAnswer : Fetched → ℕ
+exportedAnswer x = toldAnswer (x .found) (x .headers)
 
 -- ---- at88sc1608_write_session
 

@@ -24,6 +24,7 @@ use Rattle.laws.specs.Sane.{good-check}
 use Rattle.model.specs.Log.{Ending, zoned, Entry, LaidOut}
 use Rattle.model.specs.LogCheck.{lengthAt, nextEntry, entryOk, entriesOk, entryPlace, countOf, offsetOf, trailerOk, validAs, placeOf, find, located}
 use Rattle.model.specs.Record.{decode}
+use Rattle.model.specs.Box.{boxRun}
 use Rattle.model.specs.Session.{run}
 use Rattle.model.specs.Single.{check, answeredKind, act, admit, command}
 use Rattle.model.specs.Writer.{Parts, writeSession}
@@ -34,7 +35,8 @@ use Rattle.properties.specs.LogLaws.{entered, trailed, answered}
 use Rattle.properties.specs.Written.{fits-small, entry-small, entries-small, log-length}
 use Rattle.properties.specs.SessionAcceptance.{accepted-run, run-accepted}
 use Rattle.properties.specs.TriesLeft.{at-most-eight, given-out}
-use Rattle.properties.specs.Refused.{refused-run, refused-writing}
+use Rattle.properties.specs.BoxAcceptance.{same-run}
+use Rattle.properties.specs.Refused.{refused-run, refused-box, refused-writing}
 use Rattle.properties.specs.SessionPartsLaws.{accepted-parts}
 use Rattle.properties.specs.ReadBack.{laid-out}
 use Rattle.properties.specs.SessionMendingLaws.{mend-within}
@@ -133,6 +135,14 @@ run-small s space b = go (run s space .refusal) refl
         let a = accepted-run s space e in
         rw (run-accepted s space (a .0) (a .1)) (log-small _ _ _ (laid-out s space (a .0) b (a .1)))
     go (suc n) e = rw (refused-run s space n e) (omega arith)
+
+-- and in the box
+pub box-run-small : (s space : List ℕ) → Bytes s → boxRun s space .size ≤ 260 * mostRecords + leastLog
+box-run-small s space b = go (boxRun s space .refusal) refl
+  where
+    go : (n : ℕ) → boxRun s space .refusal ≡ n → boxRun s space .size ≤ 260 * mostRecords + leastLog
+    go zero e = rw (← (same-run s space e)) (run-small s space b)
+    go (suc n) e = rw (refused-box s space n e) (omega arith)
 
 -- ---- a session that is written
 

@@ -1,16 +1,17 @@
-// The C interface: a session, a single command, an answer of a log, a session written, a session mended. Slices pass as a pointer and a
-// length.
+// The C interface: a session, also in the box, a single command, an answer of a log, a session written, a session mended. Slices pass as a
+// pointer and a length.
 ghost use mathlib.Core.Path.{_≡_};
 ghost use Rattle.model.specs.LogCheck as model;
 ghost use Rattle.model.specs.Writer.{parts};
-ghost use Rattle.exports.specs.Exports.{runCall, exportedRun, commandCall, exportedCommand, exportedWriting, exportedMending};
-ghost use Rattle.results.specs.Results.{exportedAnswer};
+ghost use Rattle.exports.specs.Exports.{runCall, exportedRun, exportedBoxRun, commandCall, exportedCommand, exportedAnswer};
+ghost use Rattle.exports.specs.Exports.{exportedWriting, exportedMending};
+use box_run::box_run;
 use command::command;
 use log::find::Found;
-use log::find::find;
+use log::find::fetch;
 use mender::mend;
 use mender::search::mend_by_search;
-use record::refusal::number as refusal_number;
+use record::refusal::Outcome;
 use results::answer_number;
 use results::command_number;
 use results::mend_number;
@@ -28,6 +29,16 @@ pub extern "C" fn at88sc1608_run(session: &[u8], log: &mut [u8]) -> u64
     let ran = run(session, log);
     let outcome = ran.outcome;
     result_number(outcome, ran.size)
+}
+
+// The same in the box.
+#[no_mangle]
+pub extern "C" fn at88sc1608_box_run(session: &[u8], log: &mut [u8]) -> u64
+    ensures { λ r. ⌜ runCall r (now (log .exit)) ≡ exportedBoxRun (now (session .entry)) (now (log .entry)) ⌝ }
+{
+    let boxed = box_run(session, log);
+    let outcome = boxed.outcome;
+    result_number(outcome, boxed.size)
 }
 
 // One command: the refusal's number, or 0, 2^8 times the response's length, 2^24 times the tries left and 2^32 times the kind that is
@@ -50,14 +61,17 @@ pub extern "C" fn at88sc1608_command(
     command_number(outcome, reply.size, reply.tries, reply.kind)
 }
 
-// An answer of a log, from 0: the refusal's number, or 0, 2^8 times its length and 2^40 times where it begins.
+// An answer of a log, from 0: the refusal's number, or 0, 2^8 times its length, 2^24 times the entry headers that were read and 2^40 times
+// where it begins.
 #[no_mangle]
 pub extern "C" fn at88sc1608_answer(log: &[u8], number: u64) -> u64
-    ensures { λ r. ⌜ r ≡ exportedAnswer (model.find (now (log .entry)) number) ⌝ }
+    ensures { λ r. ⌜ r ≡ exportedAnswer (model.fetch (now (log .entry)) number) ⌝ }
 {
-    match find(log, number as usize) {
-        Found::Refused(why) => refusal_number(why) as u64,
-        Found::At(from, length) => answer_number(from, length),
+    let fetched = fetch(log, number as usize);
+    let found = fetched.found;
+    match found {
+        Found::Refused(why) => answer_number(Outcome::Refused(why), 0, fetched.headers, 0),
+        Found::At(from, length) => answer_number(Outcome::Accepted, length, fetched.headers, from),
     }
 }
 

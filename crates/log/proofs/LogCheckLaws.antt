@@ -4,21 +4,20 @@ use mathlib.Core.Bool.{Bool, true, false, cond, not, _&&_, _||_, true≢false}
 use mathlib.Core.List.{List}
 use mathlib.Core.Path.{_≡_, refl, sym, ap, _∙_}
 use native.Mathlib.Omega.{arith}
-use borrow.Author.Tests.{le-leb, lt-leb, eq-eqb, ne-eqb, eqb-true, eqb-false, leb-false, not-true, not-false}
+use borrow.Author.Tests.{le-leb, lt-leb, eq-eqb, ne-eqb, eqb-true, eqb-false, not-true, not-false}
 use lib.Dec.{leb, eqb}
 use lib.ListN.{length, drop}
 use Rattle.model.specs.Sizes.{fuseAt, leastLog, mostRecords}
 use Rattle.model.specs.Lists.{at}
-use Rattle.laws.specs.BoolLaws.{and-false}
 use Rattle.laws.specs.Tables.{tests-at}
-use Rattle.model.specs.Log.{zoned, namesZone, headerLength, ignoredKind, entryFits, zoneFits}
-use Rattle.model.specs.LogCheck.{lengthAt, nextEntry, entryOk, entriesOk, entryPlace, countOf, offsetOf, trailerOk, responseAt, located}
+use Rattle.model.specs.Log.{zoned, namesZone, ignoredKind, entryFits, zoneFits}
+use Rattle.model.specs.LogCheck.{lengthAt, responseAt, nextEntry, entryOk, entriesOk, headersRead, entryPlace, countOf, offsetOf, trailerOk}
 use Rattle.laws.specs.EntryLaws.{header-least, header-four, header-three}
-use Rattle.properties.specs.LogLaws.{entered}
+use Rattle.properties.specs.LogLaws.{Entered, entered, entry-well}
 use Rattle.model.specs.Record.{known, lengthFits}
 use Rattle.model.specs.Single.{isFuseByte, stagingFits}
 use Rattle.laws.specs.KindLaws.{known-within}
-use Rattle.log.specs.Scan.{entryEnd, Scanned}
+use Rattle.log.specs.Scan.{HeaderRead, Scanned}
 
 -- ---- the kind byte and the response's length of an entry
 
@@ -40,130 +39,172 @@ module _ (k n : ℕ) (ok : Bool) (test : ok ≡ known k) where
   unfolding entryFits
   fits-ignored ignored fits t e q = rw (← test, t) (q ∙ ap (λ (t : Bool). t && eqb n 0) e)
 
--- ---- a response behind its header
+-- ---- a header
 
-pub response-found : (l : List ℕ) (place h n : ℕ) → h ≡ headerLength zoned (at l place) → n ≡ lengthAt l place
-    → located (place + h) n ≡ located (responseAt zoned l place) (lengthAt l place)
-response-found l place h n d e = λ i. located (place + d i) (e i)
+-- the zone that is named is one of the eight, and the response begins behind three bytes, or four where it is named
+pub record Begun (l : List ℕ) (i from : ℕ) : Type 0 where
+  pub zone : zoneFits zoned (at l i) (at l (i + 3)) ≡ true
+  pub begins : from ≡ responseAt zoned l i
 
--- ---- an entry
-
-named-fits : (kind zone : ℕ) → namesZone kind ≡ true → zoneFits zoned kind zone ≡ leb zone 7
-unfolding zoneFits
-named-fits kind zone t = rw t
-
-unnamed-fits : (kind zone : ℕ) → namesZone kind ≡ false → zoneFits zoned kind zone ≡ true
-unfolding zoneFits
-unnamed-fits kind zone t = rw t
-
-module _ (l : List ℕ) (i end : ℕ) where
-  -- an entry that ends by a place has its header before it
-  header-in : (z : Bool) (x : ℕ) → i + 3 ≤ x → cond (leb (i + 3) end && (z && leb x end)) x 0 ≡ cond (z && leb x end) x 0
-  header-in z x h = go (leb (i + 3) end) refl
+module _ (l : List ℕ) (i last : ℕ) where
+  none-read : (from : ℕ) → (Entered zoned l i last → ⊥) → HeaderRead l i last from 0
+  none-read from bad = record { ends = go (entryOk zoned l i last) refl; begins = λ z. absurd (z refl) }
     where
-      go : (t : Bool) → leb (i + 3) end ≡ t → cond (t && (z && leb x end)) x 0 ≡ cond (z && leb x end) x 0
-      go true e = refl
-      go false e = let l : end < i + 3 = leb-false (i + 3) end e in rw (lt-leb x end (omega arith), and-false z)
+      go : (t : Bool) → entryOk zoned l i last ≡ t → 0 ≡ cond t (nextEntry zoned l i) 0
+      go true e = absurd (bad (entered zoned l i last e))
+      go false e = refl
 
-  module _ (n : ℕ) (ok : Bool) (long : n ≡ lengthAt l i) (fits : ok ≡ entryFits (at l i) n) where
-    pub misfit : not ok ≡ true → 0 ≡ entryEnd l i end
-    unfolding entryOk
-    misfit t = rw (← long, ← fits, not-true ok t, and-false (leb (i + 3) end))
+  module _ (named : Bool) (names : named ≡ namesZone (at l i)) where
+    module _ (t : named ≡ true) where
+      zone-is : zoneFits zoned (at l i) (at l (i + 3)) ≡ leb (at l (i + 3)) 7
+      unfolding zoneFits
+      zone-is = rw (sym names ∙ t)
 
-    module _ (named : Bool) (fine : not ok ≡ false) (names : named ≡ namesZone (at l i)) where
-      -- what is left to be judged
-      left : entryEnd l i end
-          ≡ cond (zoneFits zoned (at l i) (at l (i + 3)) && leb (i + headerLength zoned (at l i) + n) end) (i + headerLength zoned (at l i) + n) 0
-      unfolding entryOk
-      left =
-          rw (← long, ← fits, not-false ok fine)
-          (header-in (zoneFits zoned (at l i) (at l (i + 3))) (i + headerLength zoned (at l i) + n) (let h = header-least zoned (at l i) in omega arith))
+      pub bad-zone : 7 < at l (i + 3) → (from : ℕ) → HeaderRead l i last from 0
+      bad-zone h from = none-read from (λ w. true≢false (sym (w .zone) ∙ zone-is ∙ lt-leb _ _ h))
 
-      module _ (t : named ≡ true) where
-        pub bad-zone : 7 < at l (i + 3) → 0 ≡ entryEnd l i end
-        bad-zone h = sym (left ∙ rw (named-fits (at l i) (at l (i + 3)) (sym names ∙ t), lt-leb _ _ h))
+      pub begun-named : at l (i + 3) ≤ 7 → (from : ℕ) → from ≡ i + 4 → Begun l i from
+      begun-named h from e = record { zone = zone-is ∙ le-leb _ _ h; begins = e ∙ ap (λ (n : ℕ). i + n) (header-four zoned (at l i) named names t) }
 
-        pub named-end : (from : ℕ) → from ≡ i + 4 → (r : ℕ) → at l (i + 3) ≤ 7 → r ≡ cond (leb (from + n) end) (from + n) 0 → r ≡ entryEnd l i end
-        named-end from f r h e =
-            e ∙ sym (left ∙ rw (named-fits (at l i) (at l (i + 3)) (sym names ∙ t), le-leb _ _ h, ← (header-four zoned (at l i) named names t), ← f))
+    module _ (t : named ≡ false) where
+      unnamed-fits : zoneFits zoned (at l i) (at l (i + 3)) ≡ true
+      unfolding zoneFits
+      unnamed-fits = rw (sym names ∙ t)
 
-      pub unnamed-end : (from : ℕ) → from ≡ i + 3 → (r : ℕ) → named ≡ false → r ≡ cond (leb (from + n) end) (from + n) 0 → r ≡ entryEnd l i end
-      unnamed-end from f r t e =
-          e ∙ sym (left ∙ rw (unnamed-fits (at l i) (at l (i + 3)) (sym names ∙ t), ← (header-three zoned (at l i) named names t), ← f))
+      pub begun-unnamed : (from : ℕ) → from ≡ i + 3 → Begun l i from
+      begun-unnamed from e = record { zone = unnamed-fits; begins = e ∙ ap (λ (n : ℕ). i + n) (header-three zoned (at l i) named names t) }
 
--- ---- the pass over the entries
+  module _ (n from : ℕ) (long : n ≡ lengthAt l i) (b : Begun l i from) where
+    pub beyond : last < from + n → HeaderRead l i last from 0
+    beyond h = none-read from (λ w. let e = b .begins in let m = w .next in let z : ⊥ = omega arith in z)
+
+    module _ (ok : Bool) (fits : ok ≡ entryFits (at l i) n) where
+      fits-is : ok ≡ entryFits (at l i) (lengthAt l i)
+      fits-is = fits ∙ ap (entryFits (at l i)) long
+
+      pub misfit : not ok ≡ true → HeaderRead l i last from 0
+      misfit t = none-read from (λ w. true≢false (sym (w .fits) ∙ sym fits-is ∙ not-true ok t))
+
+      pub well-read : from + n ≤ last → not ok ≡ false → HeaderRead l i last from (from + n)
+      well-read h t =
+          let e = b .begins in
+          let m = header-least zoned (at l i) in
+          let next : from + n ≡ nextEntry zoned l i = omega arith in
+          let whole = entry-well zoned l i last
+          (record { header = omega arith; fits = sym fits-is ∙ not-false ok t; zone = b .zone; next = omega arith }) in
+          record { ends = rw whole next; begins = λ z. e }
+
+-- ---- the walk over the entries
 
 -- the place of one entry more
-pub place-next : (k : ℕ) (l : List ℕ) (i : ℕ) → entryPlace zoned (suc k) l i ≡ nextEntry zoned l (entryPlace zoned k l i)
+place-next : (k : ℕ) (l : List ℕ) (i : ℕ) → entryPlace zoned (suc k) l i ≡ nextEntry zoned l (entryPlace zoned k l i)
 place-next zero l i = refl
 place-next (suc k) l i = place-next k l (nextEntry zoned l i)
 
--- what is known before entry i of count: the rest decides, and the place asked for is kept once it is passed
-pub record Passing (l : List ℕ) (count end number i place kept : ℕ) : Type 0 where
+-- what is known before entry i of count: the rest decides, each header so far was counted, and the response asked for is kept once it is passed
+pub record Walking (l : List ℕ) (count end number i place headers from to : ℕ) : Type 0 where
   pub few : i ≤ count
   pub within : place ≤ end
   pub rest : entriesOk zoned (count - i) l place end ≡ entriesOk zoned count l 0 end
+  pub each : headers ≡ i
+  pub counted : headers + headersRead zoned (count - i) l place end ≡ headersRead zoned count l 0 end
   pub here : place ≡ entryPlace zoned i l 0
-  pub held : number < i → kept ≡ entryPlace zoned number l 0
+  pub begins : number < i → from ≡ responseAt zoned l (entryPlace zoned number l 0)
+  pub ends : number < i → to ≡ nextEntry zoned l (entryPlace zoned number l 0)
 
-pub passing-start : (l : List ℕ) (count end number : ℕ) → Passing l count end number 0 0 0
-passing-start l count end number =
+pub walking-start : (l : List ℕ) (count end number : ℕ) → Walking l count end number 0 0 0 0 0
+walking-start l count end number =
     let z : count - 0 ≡ count = omega arith in
     record {
       few = omega arith;
       within = omega arith;
       rest = ap (λ (n : ℕ). entriesOk zoned n l 0 end) z;
+      each = refl;
+      counted = ap (λ (n : ℕ). 0 + headersRead zoned n l 0 end) z ∙ (omega arith);
       here = refl;
-      held = λ h. absurd (let z : ⊥ = omega arith in z);
+      begins = λ h. absurd (let z : ⊥ = omega arith in z);
+      ends = λ h. absurd (let z : ⊥ = omega arith in z);
     }
 
-module _ (l : List ℕ) (count end number i place kept : ℕ) (p : Passing l count end number i place kept) where
-  one-fewer : i < count
-      → entriesOk zoned (count - i) l place end ≡ (entryOk zoned l place end && entriesOk zoned (count - (i + 1)) l (nextEntry zoned l place) end)
-  one-fewer h = let e : count - i ≡ suc (count - (i + 1)) = omega arith in ap (λ (n : ℕ). entriesOk zoned n l place end) e
+-- what is kept of an entry, or was before
+kept-at : (f : ℕ → ℕ) (l : List ℕ) (i number place x old kept : ℕ) → place ≡ entryPlace zoned i l 0 → x ≡ f place
+    → (number < i → old ≡ f (entryPlace zoned number l 0)) → kept ≡ cond (eqb i number) x old
+    → number < i + 1 → kept ≡ f (entryPlace zoned number l 0)
+kept-at f l i number place x old kept here is held e g = e ∙ go (eqb i number) refl
+  where
+    go : (t : Bool) → eqb i number ≡ t → cond t x old ≡ f (entryPlace zoned number l 0)
+    go true q = is ∙ ap f (here ∙ ap (λ (m : ℕ). entryPlace zoned m l 0) (eqb-true i number q))
+    go false q = let ne : i ≡ number → ⊥ = eqb-false i number q in held (omega arith)
+
+module _ (l : List ℕ) (count end number i place headers from to : ℕ) (p : Walking l count end number i place headers from to) (less : i < count)
+    (first next : ℕ) (read : HeaderRead l place end first next) where
+  one-fewer : count - i ≡ suc (count - (i + 1))
+  one-fewer = omega arith
+
+  rest-is : entriesOk zoned count l 0 end ≡ (entryOk zoned l place end && entriesOk zoned (count - (i + 1)) l (nextEntry zoned l place) end)
+  rest-is = sym (p .rest) ∙ ap (λ (n : ℕ). entriesOk zoned n l place end) one-fewer
+
+  counted-is : headersRead zoned count l 0 end
+      ≡ headers + suc (cond (entryOk zoned l place end) (headersRead zoned (count - (i + 1)) l (nextEntry zoned l place) end) 0)
+  counted-is = sym (p .counted) ∙ ap (λ (n : ℕ). headers + headersRead zoned n l place end) one-fewer
 
   -- an entry ends past its place, so 0 tells of none
-  well : (n : ℕ) → n ≡ entryEnd l place end → (n ≡ 0 → ⊥) → (entryOk zoned l place end ≡ true) × (n ≡ nextEntry zoned l place)
-  well n e z = go (entryOk zoned l place end) refl e
+  well : (next ≡ 0 → ⊥) → (entryOk zoned l place end ≡ true) × (next ≡ nextEntry zoned l place)
+  well z = go (entryOk zoned l place end) refl (read .ends)
     where
-      go : (t : Bool) → entryOk zoned l place end ≡ t → n ≡ cond t (nextEntry zoned l place) 0
-          → (entryOk zoned l place end ≡ true) × (n ≡ nextEntry zoned l place)
+      go : (t : Bool) → entryOk zoned l place end ≡ t → next ≡ cond t (nextEntry zoned l place) 0
+          → (entryOk zoned l place end ≡ true) × (next ≡ nextEntry zoned l place)
       go true q e = (q, e)
       go false q e = absurd (z e)
 
-  none : (n : ℕ) → n ≡ entryEnd l place end → n ≡ 0 → entryOk zoned l place end ≡ false
-  none n e z = go (entryOk zoned l place end) refl e
+  none : next ≡ 0 → entryOk zoned l place end ≡ false
+  none z = go (entryOk zoned l place end) refl (read .ends)
     where
-      go : (t : Bool) → entryOk zoned l place end ≡ t → n ≡ cond t (nextEntry zoned l place) 0 → entryOk zoned l place end ≡ false
+      go : (t : Bool) → entryOk zoned l place end ≡ t → next ≡ cond t (nextEntry zoned l place) 0 → entryOk zoned l place end ≡ false
       go true q e = absurd (let h = header-least zoned (at l place) in let w : ⊥ = omega arith in w)
       go false q e = q
 
-  pub passing-next : (n kept′ : ℕ) → i < count → n ≡ entryEnd l place end → (n ≡ 0 → ⊥) → kept′ ≡ cond (eqb i number) place kept
-      → Passing l count end number (i + 1) n kept′
-  passing-next n kept′ less e z k =
-      let fine = well n e z .0 in
-      let next = well n e z .1 in
+  pub walking-next : (from′ to′ : ℕ) → (next ≡ 0 → ⊥) → from′ ≡ cond (eqb i number) first from → to′ ≡ cond (eqb i number) next to
+      → Walking l count end number (i + 1) next (headers + 1) from′ to′
+  walking-next from′ to′ z k k′ =
+      let fine = well z .0 in
+      let past = well z .1 in
       let s : suc i ≡ i + 1 = omega arith in
+      let others : headersRead zoned (count - (i + 1)) l next end ≡ headersRead zoned (count - (i + 1)) l (nextEntry zoned l place) end =
+      ap (λ (m : ℕ). headersRead zoned (count - (i + 1)) l m end) past in
+      let total : headersRead zoned count l 0 end ≡ headers + suc (headersRead zoned (count - (i + 1)) l (nextEntry zoned l place) end) =
+      counted-is ∙ rw fine in
       record {
         few = omega arith;
         within = let w = entered zoned l place end fine .next in omega arith;
-        rest = ap (λ (m : ℕ). entriesOk zoned (count - (i + 1)) l m end) next ∙ sym (one-fewer less ∙ rw fine) ∙ p .rest;
-        here = next ∙ ap (nextEntry zoned l) (p .here) ∙ sym (place-next i l 0) ∙ ap (λ (m : ℕ). entryPlace zoned m l 0) s;
-        held = λ g. k ∙ go (eqb i number) refl g;
+        rest = ap (λ (m : ℕ). entriesOk zoned (count - (i + 1)) l m end) past ∙ sym (rest-is ∙ rw fine);
+        each = let e = p .each in omega arith;
+        counted = omega arith;
+        here = past ∙ ap (nextEntry zoned l) (p .here) ∙ sym (place-next i l 0) ∙ ap (λ (m : ℕ). entryPlace zoned m l 0) s;
+        begins = kept-at (responseAt zoned l) l i number place first from from′ (p .here) (read .begins z) (p .begins) k;
+        ends = kept-at (nextEntry zoned l) l i number place next to to′ (p .here) past (p .ends) k′;
       }
-    where
-      go : (t : Bool) → eqb i number ≡ t → number < i + 1 → cond t place kept ≡ entryPlace zoned number l 0
-      go true e g = p .here ∙ ap (λ (m : ℕ). entryPlace zoned m l 0) (eqb-true i number e)
-      go false e g = let ne : i ≡ number → ⊥ = eqb-false i number e in p .held (omega arith)
 
-  pub passing-bad : (n : ℕ) → i < count → n ≡ entryEnd l place end → n ≡ 0 → Scanned l count end number false kept
-  passing-bad n h e z =
-      record { all = sym (sym (p .rest) ∙ one-fewer h ∙ rw (none n e z)); kept = λ e. absurd (true≢false (sym e)) }
+  pub walking-bad : next ≡ 0 → Scanned l count end number false (headers + 1) from to
+  walking-bad z =
+      let total : headersRead zoned count l 0 end ≡ headers + suc 0 = counted-is ∙ rw (none z) in
+      record {
+        all = sym (rest-is ∙ rw (none z));
+        counted = omega arith;
+        begins = λ e. absurd (true≢false (sym e));
+        ends = λ e. absurd (true≢false (sym e));
+      }
 
-  pub passing-done : count ≤ i → Scanned l count end number (eqb place end) kept
-  passing-done h =
-      let z : count - i ≡ 0 = omega arith in
-      record { all = ap (λ (n : ℕ). entriesOk zoned n l place end) (sym z) ∙ p .rest; kept = λ e g. p .held (omega arith) }
+pub walking-done : (l : List ℕ) (count end number i place headers from to : ℕ) → Walking l count end number i place headers from to → count ≤ i
+    → Scanned l count end number (eqb place end) headers from to
+walking-done l count end number i place headers from to p h =
+    let z : 0 ≡ count - i = omega arith in
+    record {
+      all = ap (λ (n : ℕ). entriesOk zoned n l place end) z ∙ p .rest;
+      counted = (let q : headers ≡ headers + 0 = omega arith in q) ∙ ap (λ (n : ℕ). headers + headersRead zoned n l place end) z ∙ p .counted;
+      begins = λ e g. p .begins (omega arith);
+      ends = λ e g. p .ends (omega arith);
+    }
 
 -- ---- the trailer
 

@@ -4,8 +4,8 @@ ghost use mathlib.Core.Bool.{cond};
 ghost use Prim.Native.Nat.{_+_, _≤_};
 ghost use lib.ListN.{length};
 ghost use Rattle.model.specs.Log as model;
-ghost use lib.Dec.{leb};
-ghost use Rattle.log.specs.Scan.{entryEnd, Scanned};
+ghost use Rattle.model.specs.Sizes.{mostRecords};
+ghost use Rattle.log.specs.Scan.{HeaderRead, Scanned};
 use header::names_zone;
 use kinds::both;
 use kinds::is_known;
@@ -29,40 +29,44 @@ fn entry_fits(kind: u8, response: usize) -> bool
     both(is_ignored_kind(kind), response == 0)
 }
 
-// A place up to end, or 0 where it is past that.
-fn ended(place: usize, end: usize) -> usize
-    ensures { λ r. ⌜ r ≡ cond (leb place end) place 0 ⌝ }
-{
-    if place <= end {
-        return place;
-    }
-    0
+// An entry's header as it was read: where the response begins, and where the entry ends.
+struct Header {
+    from: usize,
+    end: usize,
 }
 
-// Where the entry at a place ends, which is to be by end; 0 where none stands there.
-fn entry_end(log: &[u8], at: usize, end: usize) -> usize
-    requires { ⌜ (at ≤ end) × (end + 8 ≤ length (now log)) ⌝ }
-    ensures { λ r. ⌜ r ≡ entryEnd (now (log .entry)) at end ⌝ }
+// The header of the entry at a place, which is to end by a place; with 0 for its end where no entry stands there. Where the next entry begins
+// is known before the kind is judged.
+fn read_header(log: &[u8], at: usize, last: usize) -> Header
+    requires { ⌜ (at ≤ last) × (last + 8 ≤ length (now log)) ⌝ }
+    ensures { λ r. ⌜ HeaderRead (now (log .entry)) at last (r .from) (r .end) ⌝ }
 {
     let kind = log[at];
     let response = get2(log, at + 1);
-    if !entry_fits(kind, response) {
-        return 0;
-    }
     let mut from = at + 3;
     if names_zone(kind) {
         if 7 < log[from] {
-            return 0;
+            return Header { from, end: 0 };
         }
         from = at + 4;
     }
-    ended(from + response, end)
+    let end = from + response;
+    if last < end {
+        return Header { from, end: 0 };
+    }
+    if !entry_fits(kind, response) {
+        return Header { from, end: 0 };
+    }
+    Header { from, end }
 }
 
-// What a pass over the entries finds: whether they are all well and end at the card, and the place of one of them.
+// What a walk over the entries finds: whether they are all well and end at the card, how many headers it read, and where the response of one of
+// them begins and ends.
 pub struct Entries {
     pub ok: bool,
-    pub place: usize,
+    pub headers: usize,
+    pub from: usize,
+    pub to: usize,
 }
 
 // The place that is kept: this entry's, or the one kept so far.
@@ -75,25 +79,37 @@ fn kept(here: bool, at: usize, place: usize) -> usize
     place
 }
 
-// helper: one pass over count entries from the front up to end, which keeps the place of the entry with a number.
+// helper: one walk over count entries from the front up to end. It reads each header once, counts it, and keeps the response of the entry
+// with a number on the way.
 pub fn scan(log: &[u8], count: usize, end: usize, number: usize) -> Entries
-    requires { ⌜ end + 8 ≤ length (now log) ⌝ }
-    ensures { λ r. ⌜ Scanned (now (log .entry)) count end number (r .ok) (r .place) ⌝ }
+    requires { ⌜ (end + 8 ≤ length (now log)) × (count ≤ mostRecords) ⌝ }
+    ensures { λ r. ⌜ Scanned (now (log .entry)) count end number (r .ok) (r .headers) (r .from) (r .to) ⌝ }
 {
     let mut at = 0;
-    let mut place = 0;
+    let mut headers = 0;
+    let mut from = 0;
+    let mut to = 0;
     let mut i = 0;
     while i < count {
-        let next = entry_end(log, at, end);
-        if next == 0 {
-            return Entries { ok: false, place };
+        let header = read_header(log, at, end);
+        headers += 1;
+        if header.end == 0 {
+            return Entries {
+                ok: false,
+                headers,
+                from,
+                to,
+            };
         }
-        place = kept(i == number, at, place);
-        at = next;
+        from = kept(i == number, header.from, from);
+        to = kept(i == number, header.end, to);
+        at = header.end;
         i += 1;
     }
     Entries {
         ok: at == end,
-        place,
+        headers,
+        from,
+        to,
     }
 }

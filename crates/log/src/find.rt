@@ -1,13 +1,13 @@
 // An answer found in a log.
 ghost use mathlib.Core.Path.{_≡_};
-ghost use Prim.Native.Nat.{_+_, _-_, _≤_};
+ghost use Prim.Native.Nat.{_-_, _≤_};
 ghost use lib.ListN.{length, take, drop};
 ghost use Rattle.model.specs.Log.{zoned};
 ghost use Rattle.model.specs.LogCheck as model;
-ghost use Rattle.log.specs.Found.{foundOf, Within};
+ghost use Rattle.record.specs.RefusalNumber.{refusalNumber};
+ghost use Rattle.log.specs.Found.{foundOf, fetchedOf, Within};
 use crate::check::scan;
 use access::rights::is_fuse_byte;
-use header::header_length;
 use record::number::get2;
 use record::number::get4;
 use record::refusal::Refusal;
@@ -50,32 +50,42 @@ fn trailer_ok(log: &[u8]) -> bool
     staging_fits(log, offset)
 }
 
-// helper: where the response of the entry at a place lies.
-fn response_at(log: &[u8], place: usize) -> Found
-    requires { ⌜ place + 4 ≤ length (now log) ⌝ }
-    ensures { λ r. ⌜ foundOf r ≡ model.located (model.responseAt zoned (now (log .entry)) place) (model.lengthAt (now (log .entry)) place) ⌝ }
-{
-    Found::At(place + header_length(log[place]), get2(log, place + 1))
+// What is found, and how many entry headers were read for it.
+pub struct Fetched {
+    pub found: Found,
+    pub headers: usize,
 }
 
-// Where answer number lies, from 0. The whole log is checked for every number.
-pub fn find(log: &[u8], number: usize) -> Found
-    ensures { λ r. ⌜ foundOf r ≡ model.find (now (log .entry)) number ⌝ }
+fn refused(why: Refusal, headers: usize) -> Fetched
+    ensures { λ r. ⌜ fetchedOf r ≡ record { found = model.missing (refusalNumber why); headers = headers } ⌝ }
+{
+    Fetched {
+        found: Found::Refused(why),
+        headers,
+    }
+}
+
+// Where answer number lies, from 0. The whole log is checked for every number, in the pass that finds the answer.
+pub fn fetch(log: &[u8], number: usize) -> Fetched
+    ensures { λ r. ⌜ fetchedOf r ≡ model.fetch (now (log .entry)) number ⌝ }
 {
     if !trailer_ok(log) {
-        return Found::Refused(Refusal::NotALog);
+        return refused(Refusal::NotALog, 0);
     }
     let length = log.len();
     let count = get2(log, length - 4);
-    let end = get4(log, length - TRAILER);
-    let scanned = scan(log, count, end, number);
+    let scanned = scan(log, count, get4(log, length - TRAILER), number);
     if !scanned.ok {
-        return Found::Refused(Refusal::NotALog);
+        return refused(Refusal::NotALog, 0);
     }
+    let headers = scanned.headers;
     if count <= number {
-        return Found::Refused(Refusal::NoSuchAnswer);
+        return refused(Refusal::NoSuchAnswer, headers);
     }
-    response_at(log, scanned.place)
+    Fetched {
+        found: Found::At(scanned.from, scanned.to - scanned.from),
+        headers,
+    }
 }
 
 // The part of a log between two places.
@@ -86,30 +96,32 @@ fn part(log: &[u8], from: usize, to: usize) -> &[u8]
     &log[from..to]
 }
 
-// The part of the log that is found; the empty part where it is a refusal.
-fn part_found(log: &[u8], found: Found) -> &[u8]
-    requires { ⌜ Within (now log) (foundOf found) ⌝ }
-    ensures { λ r. ⌜ now r ≡ model.answerIn (now (log .entry)) (foundOf found) ⌝ }
+// The part of the log that was fetched; the empty part where it is a refusal.
+fn part_fetched(log: &[u8], fetched: Fetched) -> &[u8]
+    requires { ⌜ Within (now log) (foundOf (fetched .found)) ⌝ }
+    ensures { λ r. ⌜ now r ≡ model.answerIn (now (log .entry)) (foundOf (fetched .found)) ⌝ }
 {
+    let found = fetched.found;
     match found {
         Found::Refused(_) => part(log, 0, 0),
         Found::At(from, length) => part(log, from, from + length),
     }
 }
 
-// An answer read from a log: a refusal or where it lies, and its bytes, a part of the log; no bytes where it is refused.
+// An answer read from a log: a refusal or where it lies, with the headers read, and its bytes, a part of the log; no bytes where it is refused.
 pub struct Answer<'a> {
-    pub found: Found,
+    pub fetched: Fetched,
     pub bytes: &'a [u8],
 }
 
 // Reads answer number, from 0. An answer without bytes is told from a refusal by what is found.
 pub fn read_answer<'a>(log: &'a [u8], number: usize) -> Answer<'a>
-    ensures { λ r. ⌜ (foundOf (r .found) ≡ model.find (now (log .entry)) number) × (now (r .bytes) ≡ model.answerIn (now (log .entry)) (foundOf (r .found))) ⌝ }
+    ensures { λ r. ⌜ (fetchedOf (r .fetched) ≡ model.fetch (now (log .entry)) number)
+        × (now (r .bytes) ≡ model.answerIn (now (log .entry)) (foundOf (r .fetched .found))) ⌝ }
 {
-    let found = find(log, number);
+    let fetched = fetch(log, number);
     Answer {
-        found,
-        bytes: part_found(log, found),
+        fetched,
+        bytes: part_fetched(log, fetched),
     }
 }

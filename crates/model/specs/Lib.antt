@@ -21,12 +21,13 @@ pub mod Act
 -- the AT88SC1608
 pub mod Access
 pub mod At88sc1608
--- records, the single command, the log, sessions and how one is written
+-- records, the single command, the log, sessions, how one is run in the box, written and mended
 pub mod Record
 pub mod Single
 pub mod Reader
 pub mod Log
 pub mod LogCheck
 pub mod Session
+pub mod Box
 pub mod Writer
 pub mod Mender

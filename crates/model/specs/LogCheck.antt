@@ -1,5 +1,5 @@
--- The log reader ("Session and log"): when bytes are accepted as a log, by places in them, and where an answer lies. `LogReading` of crate
--- `properties` has that this is the layout of `Log`, no more and no less.
+-- The log reader ("Session and log", "The foyer box"): when bytes are accepted as a log, by places in them, where an answer lies, and how many
+-- entry headers are read for it. `LogReading` of crate `properties` has that this is the layout of `Log`, no more and no less.
 use Prim.Native.Nat.{ℕ, zero, suc, _+_, _-_}
 use mathlib.Core.Bool.{Bool, cond, not, _&&_}
 use mathlib.Core.List.{List, []}
@@ -54,6 +54,11 @@ module _ (E : Ending) where
   unfoldable pub validAs : List ℕ → Bool
   validAs l = trailerOk l && entriesOk (countOf l) l 0 (offsetOf l)
 
+  -- how many entry headers a walk over n entries reads: one for each, up to the first entry that is not well
+  abbrev pub headersRead : ℕ → List ℕ → ℕ → ℕ → ℕ
+  headersRead zero l i end = 0
+  headersRead (suc n) l i end = suc (cond (entryOk l i end) (headersRead n l (nextEntry l i) end) 0)
+
   -- the place of the entry k entries past a place
   abbrev pub entryPlace : ℕ → List ℕ → ℕ → ℕ
   entryPlace zero l i = i
@@ -83,3 +88,12 @@ find l k =
 abbrev pub answerIn : List ℕ → Found → List ℕ
 answerIn l (missing n) = []
 answerIn l (located from n) = take n (drop from l)
+
+-- ---- fetching an answer ("The foyer box"): what is found, and how many entry headers the walk over the log read; 0 with 13
+
+pub record Fetched : Type 0 where
+  pub found : Found
+  pub headers : ℕ
+
+unfoldable pub fetch : List ℕ → ℕ → Fetched
+fetch l k = record { found = find l k; headers = cond (valid l) (headersRead zoned (countOf l) l 0 (offsetOf l)) 0 }

@@ -51,3 +51,6 @@ stagingBytes = 16
 
 abbrev pub noStart : ℕ
 noStart = 17
+
+abbrev pub boxLimits : ℕ
+boxLimits = 18

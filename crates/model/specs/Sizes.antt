@@ -32,6 +32,13 @@ leastLog = cardSize + trailerSize
 abbrev pub mostRecords : ℕ
 mostRecords = 4096
 
+-- the longest session that the box takes, and the most records
+abbrev pub boxSession : ℕ
+boxSession = 4096
+
+abbrev pub boxRecords : ℕ
+boxRecords = 64
+
 -- the longest title that the session writer takes
 abbrev pub mostTitle : ℕ
 mostTitle = 255

@@ -57,7 +57,7 @@ module _ (hidden : ℕ → Bool) (in-card : (i : ℕ) → fuseAt ≤ i → hidde
     pub count-same : countOf s₁ ≡ countOf s₂
     count-same = number-same 2 (length s₁ - 4) (omega arith) ∙ ap (λ (n : ℕ). numberAt s₂ (n - 4) 2) (agree .long)
 
-    byte-same : (k : ℕ) → k ≤ 8 → at s₁ (length s₁ - k) ≡ at s₂ (length s₂ - k)
+    pub byte-same : (k : ℕ) → k ≤ 8 → at s₁ (length s₁ - k) ≡ at s₂ (length s₂ - k)
     byte-same k h = agree .same (length s₁ - k) (in-card (length s₁ - k) (omega arith)) ∙ ap (λ (n : ℕ). at s₂ (n - k)) (agree .long)
 
     rest-same : rest s₁ ≡ rest s₂

@@ -11,6 +11,7 @@ use Rattle.model.specs.Lists.{at}
 use Rattle.model.specs.Instruction.{Instruction}
 use Rattle.model.specs.At88sc1608.{at88sc1608}
 use Rattle.model.specs.Call.{Decoded, refused, whole}
+use Rattle.laws.specs.BoolLaws.{choice}
 use Rattle.laws.specs.BusyLaws.{fullAnswer}
 use Rattle.model.specs.Record.{kinds, known, inRange, made, dataAt, recordLength, decode}
 use Rattle.laws.specs.KindLaws.{each-kind}
@@ -32,6 +33,19 @@ Numbered (x ∷ xs) = (1 ≤ x .number) × Numbered xs
 pub numbered-append : (xs ys : List Condition) → Numbered xs → Numbered ys → Numbered (xs ++ ys)
 numbered-append [] ys p q = q
 numbered-append (x ∷ xs) ys p q = (p .0, numbered-append xs ys (p .1) q)
+
+-- numbers that are at most some number
+abbrev pub UpTo : ℕ → List Condition → Type 0
+UpTo n [] = Unit {0}
+UpTo n (x ∷ xs) = (x .number ≤ n) × UpTo n xs
+
+pub up-to-append : (n : ℕ) (xs ys : List Condition) → UpTo n xs → UpTo n ys → UpTo n (xs ++ ys)
+up-to-append n [] ys p q = q
+up-to-append n (x ∷ xs) ys p q = (p .0, up-to-append n xs ys (p .1) q)
+
+pub first-up-to : (n : ℕ) (xs : List Condition) → UpTo n xs → first xs 0 ≤ n
+first-up-to n [] p = omega arith
+first-up-to n (x ∷ xs) p = choice (λ m. m ≤ n) (x .applies) (x .number) (first xs 0) (p .0) (first-up-to n xs (p .1))
 
 pub some : (n : ℕ) → 1 ≤ suc n
 some n = omega arith

@@ -10,6 +10,7 @@ pub mod WriterConditions
 pub mod Survival
 pub mod SessionParts
 pub mod MenderConditions
+pub mod BoxConditions
 -- the final statements
 pub mod SessionAcceptance
 pub mod CallAcceptance
@@ -17,13 +18,17 @@ pub mod Refused
 pub mod OneCommand
 pub mod HeededCommands
 pub mod LogReading
+pub mod HeadersRead
 pub mod TriesLeft
 pub mod ClosedReads
 pub mod StoredBytes
 pub mod SecurityOutcomes
 pub mod PasswordWords
 pub mod BusyTimes
+pub mod BoxAcceptance
 pub mod SessionSecrecy
+pub mod AnswerSecrecy
+pub mod BoxSecrecy
 pub mod SessionWriting
 pub mod SessionMending
 pub mod StagedWrites
@@ -44,12 +49,17 @@ pub mod LogLaws
 pub mod Written
 pub mod Layout
 pub mod ReadBack
+pub mod FetchLaws
 pub mod EachRecord
 -- of demand 3 for sessions
 pub mod AsCalls
 pub mod SameRecords
 pub mod Alike
 pub mod SessionSecrecyLaws
+pub mod AnswerSecrecyLaws
+-- of the box
+pub mod BoxLaws
+pub mod BoxSecrecyLaws
 -- of the session writer
 pub mod WriterConditionsLaws
 pub mod SessionPartsLaws

@@ -11,8 +11,9 @@ use Rattle.model.specs.Call as calls
 use Rattle.model.specs.Instruction.{Instruction}
 use Rattle.model.specs.Reader.{recordsEnd}
 use Rattle.model.specs.Record.{decode}
-use Rattle.model.specs.Refusal.{bytesLeft, noSpace}
+use Rattle.model.specs.Refusal.{bytesLeft, noSpace, boxLimits}
 use Rattle.model.specs.Session.{startOf, countOf, frame, Read, stopped, all, readFrom, logOf, rejected, written, ended, framed, run}
+use Rattle.model.specs.Box.{boxRefuses, boxRun}
 use Rattle.model.specs.Single.{check, answeredKind, act, admit, command}
 use Rattle.model.specs.State.{State}
 use Rattle.model.specs.Writer.{Parts, sessionBytes, partsRefusal, placed, writeSession}
@@ -56,6 +57,16 @@ run-keeps s space n e = on-frame (frame s) e
     on-frame : (m : ℕ) → framed s space m .refusal ≡ suc n → framed s space m ≡ rejected (suc n) space
     on-frame zero e = on-read (readFrom (countOf s) s (startOf s)) e
     on-frame (suc m) e = number-kept space n (suc m) e
+
+-- a session in the box
+pub box-keeps : (s space : List ℕ) (n : ℕ) → boxRun s space .refusal ≡ suc n → boxRun s space ≡ rejected (suc n) space
+unfolding boxRun
+box-keeps s space n e = on-limits (boxRefuses s) e
+  where
+    on-limits : (t : Bool) → cond t (rejected boxLimits space) (run s space) .refusal ≡ suc n
+        → cond t (rejected boxLimits space) (run s space) ≡ rejected (suc n) space
+    on-limits true e = number-kept space n boxLimits e
+    on-limits false e = run-keeps s space n e
 
 -- the session writer
 pub writing-keeps : (p : Parts) (space : List ℕ) (n : ℕ) → writeSession p space .refusal ≡ suc n → writeSession p space ≡ rejected (suc n) space

@@ -1,5 +1,5 @@
 -- Of the conditions of a session: the first that applies is its refusal.
-use Prim.Native.Nat.{ℕ, zero, suc, _+_}
+use Prim.Native.Nat.{ℕ, zero, suc, _+_, _≤_}
 use mathlib.Core.Bool.{Bool, true, false, cond, not}
 use mathlib.Core.List.{List, _++_}
 use mathlib.Core.Path.{_≡_, refl, sym, ap, _∙_}
@@ -13,12 +13,13 @@ use Rattle.model.specs.Call.{Decoded, refused, whole}
 use Rattle.model.specs.Reader.{recordsEnd, partAt, nextOf}
 use Rattle.model.specs.Record.{recordLength}
 use Rattle.laws.specs.RecordLaws.{accepted, decode-kind}
-use Rattle.model.specs.Refusal.{bytesLeft, noSpace}
+use Rattle.model.specs.Refusal.{stagingBytes, bytesLeft, noSpace}
 use Rattle.model.specs.Session.{startOf, countOf, wrongLength, wrongTrailer, wrongStart, wrongCount, wrongFuses, wrongStaging, frame, framed, run}
 use Rattle.model.specs.Session.{Read, stopped, all, onDecoded, more, readFrom, logOf, fullEntries, rejected, ended, initial}
 use Rattle.properties.specs.SessionLaws.{read-first, read-none, fullTotal, full-total}
 use Rattle.properties.specs.Conditions.{recordConditions, first}
-use Rattle.properties.specs.ConditionsLaws.{first-append, Numbered, numbered-append, some, record-numbered, first-record, decode-answer}
+use Rattle.properties.specs.ConditionsLaws.{first-append, Numbered, numbered-append, some, UpTo, up-to-append, first-up-to}
+use Rattle.properties.specs.ConditionsLaws.{record-numbered, first-record, decode-answer}
 use Rattle.properties.specs.SessionConditions.{placePast, recordsConditions, fullLength, logLength, lastConditions, sessionConditions}
 use Rattle.properties.specs.AcceptedSession.{accepting}
 
@@ -122,3 +123,21 @@ session-numbered s space = (some _, (some _, (some _, (some _, (some _, (some _,
     others =
         numbered-append (recordsConditions (countOf s) s (startOf s)) (lastConditions s space)
         (records-numbered (countOf s) s (startOf s)) (some _, (some _, tt))
+
+-- none is beyond 16
+records-up-to : (n : ℕ) (s : List ℕ) (i : ℕ) → UpTo stagingBytes (recordsConditions n s i)
+records-up-to zero s i = tt
+records-up-to (suc n) s i =
+    up-to-append stagingBytes (recordConditions (partAt s i)) (recordsConditions n s (i + recordLength (partAt s i)))
+    (omega arith, (omega arith, (omega arith, (omega arith, (omega arith, tt))))) (records-up-to n s (i + recordLength (partAt s i)))
+
+pub refusal-most : (s space : List ℕ) → run s space .refusal ≤ stagingBytes
+refusal-most s space = rw (refusal-first s space) (first-up-to stagingBytes (sessionConditions s space) all-up-to)
+  where
+    others : UpTo stagingBytes (recordsConditions (countOf s) s (startOf s) ++ lastConditions s space)
+    others =
+        up-to-append stagingBytes (recordsConditions (countOf s) s (startOf s)) (lastConditions s space)
+        (records-up-to (countOf s) s (startOf s)) (omega arith, (omega arith, tt))
+
+    all-up-to : UpTo stagingBytes (sessionConditions s space)
+    all-up-to = (omega arith, (omega arith, (omega arith, (omega arith, (omega arith, (omega arith, others))))))

@@ -79,7 +79,7 @@ module _ (hidden : ℕ → Bool) where
 agree-self : (hidden : ℕ → Bool) (l : List ℕ) → AgreeOutside hidden l l
 agree-self hidden l = record { long = refl; same = λ i h. refl }
 
-rejected-alike : (hidden : ℕ → Bool) (n : ℕ) (space : List ℕ) → RunAlike hidden (rejected n space) (rejected n space)
+pub rejected-alike : (hidden : ℕ → Bool) (n : ℕ) (space : List ℕ) → RunAlike hidden (rejected n space) (rejected n space)
 rejected-alike hidden n space = record { refusal = refl; size = refl; outside = agree-self _ space }
 
 places : (hidden : ℕ → Bool) (f n i : ℕ) → n ≡ f + leastLog → inFinalCard hidden n i ≡ (leb f i && hidden (i - f))
@@ -300,7 +300,7 @@ module _ (z : ℕ) (zl : z < 8) (s₁ s₂ : List ℕ) (sealed₁ : Sealed (card
   abbrev p : ℕ
   p = passwordSet (register (cardOf s₁) z)
 
-  hidden-before : (i : ℕ) → fuseAt ≤ i → inZoneOrPasswords z p i ≡ false
+  pub hidden-before : (i : ℕ) → fuseAt ≤ i → inZoneOrPasswords z p i ≡ false
   hidden-before i h = read.not-hidden z p zl (omega arith) i (omega arith) (λ k n q e. omega arith)
 
   pub read-claim : EveryRecord (PresentsNeither p (cardOf s₁) (cardOf s₂)) s₁ space → SessionsAlike (orStaged (inZoneOrPasswords z p)) s₁ s₂ space
@@ -317,7 +317,7 @@ module _ (z : ℕ) (zl : z < 8) (s₁ s₂ : List ℕ) (sealed₁ : Sealed (card
 
 module _ (z : ℕ) (zl : z < 8) (s₁ s₂ : List ℕ) (sealed₁ : Sealed (cardOf s₁)) (sealed₂ : Sealed (cardOf s₂)) (idle : Idle (cardOf s₁))
     (demanded : ate (register (cardOf s₁) z) ≡ true) (agree : AgreeOutside (inZone z) s₁ s₂) (space : List ℕ) where
-  zone-before : (i : ℕ) → fuseAt ≤ i → inZone z i ≡ false
+  pub zone-before : (i : ℕ) → fuseAt ≤ i → inZone z i ≡ false
   zone-before i h = authentication.not-hidden z i zl (omega arith)
 
   pub authentication-claim : EveryRecord AcceptsNot s₁ space → SessionsAlike (orStaged (inZone z)) s₁ s₂ space

@@ -13,7 +13,8 @@ use Rattle.model.specs.Device.{Counter, counterPlace}
 use Rattle.model.specs.At88sc1608.{at88sc1608}
 use Rattle.model.specs.Call.{Powered}
 use Rattle.model.specs.Single.{act}
-use Rattle.model.specs.Session.{after, entriesOf, endOf, initial, Ran, run}
+use Rattle.model.specs.LogCheck.{find, fetch, answerIn}
+use Rattle.model.specs.Session.{after, entriesOf, endOf, initial, logOf, Ran, run}
 use Rattle.secrecy.specs.Secret.{AgreeOutside, OnCommand, StagesElsewhere}
 use Rattle.properties.specs.AcceptedSession.{Accepts, Every}
 
@@ -50,6 +51,13 @@ pub record RecordsAlike (hidden : ℕ → Bool) (ks₁ ks₂ : List Instruction)
 pub record SessionsAlike (hidden : ℕ → Bool) (s₁ s₂ space : List ℕ) : Type 0 where
   pub runs : RunAlike hidden (run s₁ space) (run s₂ space)
   pub records : (ks₁ ks₂ : List Instruction) → Accepts s₁ space ks₁ → Accepts s₂ space ks₂ → RecordsAlike hidden ks₁ ks₂ (initial s₁) (initial s₂)
+
+-- two sessions whose logs, if both are accepted, are not told apart by any answer: what is found, the headers that were read for it, its bytes
+abbrev pub AnswersAlike : List ℕ → List ℕ → List ℕ → Type 0
+AnswersAlike s₁ s₂ space =
+    (ks₁ ks₂ : List Instruction) → Accepts s₁ space ks₁ → Accepts s₂ space ks₂ → (k : ℕ)
+    → (fetch (logOf s₁ ks₁) k ≡ fetch (logOf s₂ ks₂) k)
+    × (answerIn (logOf s₁ ks₁) (find (logOf s₁ ks₁) k) ≡ answerIn (logOf s₂ ks₂) (find (logOf s₂ ks₂) k))
 
 -- every instruction of a list meets a condition on the card and the state that it meets, and itself
 abbrev pub EveryAlong : (List ℕ → State → Instruction → Type 0) → List Instruction → Powered State → Type 0

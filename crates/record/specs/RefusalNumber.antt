@@ -25,6 +25,7 @@ refusalNumber refusal.NoSuchAnswer = model.noSuchAnswer
 refusalNumber refusal.TitleLength = model.titleLength
 refusalNumber refusal.StagingBytes = model.stagingBytes
 refusalNumber refusal.NoStart = model.noStart
+refusalNumber refusal.BoxLimits = model.boxLimits
 
 -- none of them is 0
 pub number-some : (why : Refusal) → (n : ℕ) × (refusalNumber why ≡ suc n)
@@ -45,6 +46,7 @@ number-some refusal.NoSuchAnswer = (13, refl)
 number-some refusal.TitleLength = (14, refl)
 number-some refusal.StagingBytes = (15, refl)
 number-some refusal.NoStart = (16, refl)
+number-some refusal.BoxLimits = (17, refl)
 
 -- the number of the refusal that a call ends with, or 0
 abbrev pub outcomeNumber : Outcome → ℕ

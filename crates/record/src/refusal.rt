@@ -20,6 +20,7 @@ pub enum Refusal {
     TitleLength,
     StagingBytes,
     NoStart,
+    BoxLimits,
 }
 
 // The number of a refusal.
@@ -44,6 +45,7 @@ pub fn number(refusal: Refusal) -> u8
         Refusal::TitleLength => 15,
         Refusal::StagingBytes => 16,
         Refusal::NoStart => 17,
+        Refusal::BoxLimits => 18,
     }
 }
 

@@ -1,6 +1,5 @@
 -- The numbers that the exported functions give back.
 use Prim.Native.Nat.{ℕ, _+_, _*_, _^_}
-use Rattle.model.specs.LogCheck.{Found, missing, located}
 
 -- the refusal's number, or 0, and 2^8 times a length
 abbrev pub result : ℕ → ℕ → ℕ
@@ -10,10 +9,9 @@ result refusal n = refusal + 2 ^ 8 * n
 abbrev pub commandResult : ℕ → ℕ → ℕ → ℕ → ℕ
 commandResult refusal n tries kind = refusal + 2 ^ 8 * n + 2 ^ 24 * tries + 2 ^ 32 * kind
 
--- the refusal's number, or 2^8 times the answer's length and 2^40 times where it begins in the log
-abbrev pub exportedAnswer : Found → ℕ
-exportedAnswer (missing n) = n
-exportedAnswer (located from n) = 2 ^ 8 * n + 2 ^ 40 * from
+-- the refusal's number, or 0, 2^8 times the answer's length, 2^24 times the entry headers that were read and 2^40 times where it begins in the log
+abbrev pub answerResult : ℕ → ℕ → ℕ → ℕ → ℕ
+answerResult refusal n headers from = refusal + 2 ^ 8 * n + 2 ^ 24 * headers + 2 ^ 40 * from
 
 -- the refusal's number, or 0, 2^8 times the count of the records and 2^32 times where they start
 abbrev pub mendResult : ℕ → ℕ → ℕ → ℕ

@@ -2,9 +2,8 @@
 ghost use mathlib.Core.Path.{_≡_};
 ghost use Prim.Native.Nat.{_*_, _≤_, _^_};
 ghost use Rattle.model.specs.Sizes.{greatestSession, mostRecords};
-ghost use Rattle.model.specs.LogCheck.{located};
 ghost use Rattle.record.specs.RefusalNumber.{outcomeNumber};
-ghost use Rattle.results.specs.Results.{result, commandResult, exportedAnswer, mendResult};
+ghost use Rattle.results.specs.Results.{result, commandResult, answerResult, mendResult};
 use record::refusal::Outcome;
 use record::refusal::outcome_number;
 
@@ -30,14 +29,16 @@ pub fn command_number(outcome: Outcome, length: usize, tries: u8, kind: u8) -> u
     refusal + 4294967296 * answered + 16777216 * left + 256 * long
 }
 
-// helper: 2^8 times an answer's length and 2^40 times where it begins.
-pub fn answer_number(from: usize, length: usize) -> u64
-    requires { ⌜ (length ≤ 256) × (from ≤ 260 * mostRecords) ⌝ }
-    ensures { λ r. ⌜ r ≡ exportedAnswer (located from length) ⌝ }
+// helper: the refusal's number, or 0, with 2^8 times an answer's length, 2^24 times the headers that were read and 2^40 times where it begins.
+pub fn answer_number(outcome: Outcome, length: usize, headers: usize, from: usize) -> u64
+    requires { ⌜ (length ≤ 256) × (headers ≤ mostRecords) × (from ≤ 260 * mostRecords) ⌝ }
+    ensures { λ r. ⌜ r ≡ answerResult (outcomeNumber outcome) length headers from ⌝ }
 {
-    let start = from as u64;
+    let refusal = outcome_number(outcome) as u64;
     let long = length as u64;
-    256 * long + 1099511627776 * start
+    let many = headers as u64;
+    let start = from as u64;
+    refusal + 1099511627776 * start + 16777216 * many + 256 * long
 }
 
 // helper: the refusal's number, or 0, with 2^8 times a count and 2^32 times where the records start.

@@ -324,15 +324,15 @@ pub sets-whole : (l vs : List ℕ) → length vs ≡ length l → sets l 0 vs �
 sets-whole l vs e =
     sets-eq vs l 0 (omega arith) ∙ ap (λ (x : List ℕ). vs ++ x) (drop-of-length-le l (let h : length l ≤ 0 + length vs = omega arith in h)) ∙ append-nil vs
 
+-- the card that is copied from a session
+pub card-copied : (s blank card : List ℕ) → cardSize ≤ length s → length blank ≡ cardSize → card ≡ sets blank 0 (take cardSize s) → card ≡ cardOf s
+card-copied s blank card long size copied = copied ∙ sets-whole blank (take cardSize s) (length-take-le cardSize s long ∙ sym size)
+
 module _ (s log : List ℕ) (r : LogReady s log) where
   pub session-long : leastSession ≤ length s
   session-long = framed-well s (r .frames) .long
 
-  module _ (blank card : List ℕ) (start count : ℕ) (size : length blank ≡ cardSize) (copied : card ≡ sets blank 0 (take cardSize s))
-      (starts : start ≡ startOf s) (counts : count ≡ countOf s) where
-    card-is : card ≡ cardOf s
-    card-is = copied ∙ sets-whole blank (take cardSize s) (length-take-le cardSize s (let l = session-long in omega arith) ∙ sym size)
-
+  module _ (card : List ℕ) (start count : ℕ) (card-is : card ≡ cardOf s) (starts : start ≡ startOf s) (counts : count ≡ countOf s) where
     pub records-ready : RecordsReady s start count card log
     records-ready =
         rw (card-is, starts, counts)

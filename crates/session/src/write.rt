@@ -1,5 +1,9 @@
 // A session that was checked is run on a working card, and its log written.
 ghost use mathlib.Core.Path.{_≡_};
+ghost use Prim.Native.Nat.{_≤_};
+ghost use lib.ListN.{length};
+ghost use Rattle.model.specs.Sizes.{cardSize};
+ghost use Rattle.model.specs.Session.{cardOf};
 ghost use Rattle.model.specs.Call.{powered};
 ghost use Rattle.busy.specs.TimedState.{stateOf};
 ghost use Rattle.record.specs.DecodedRecord.{headOf};
@@ -86,6 +90,16 @@ fn run_records(session: &[u8], start: usize, count: usize, card: &mut [u8], log:
     place
 }
 
+// The card that a session begins with.
+fn card_of(session: &[u8]) -> [u8; CARD]
+    requires { ⌜ cardSize ≤ length (now session) ⌝ }
+    ensures { λ r. ⌜ r ≡ cardOf (now (session .entry)) ⌝ }
+{
+    let mut card = [0u8; CARD];
+    copy(&mut card, 0, session, 0, CARD);
+    card
+}
+
 // helper: the entries, the final card and the trailer; how long the log is.
 pub fn write_log(session: &[u8], log: &mut [u8]) -> usize
     requires { ⌜ LogReady (now session) (now log) ⌝ }
@@ -94,8 +108,7 @@ pub fn write_log(session: &[u8], log: &mut [u8]) -> usize
     let length = session.len();
     let start = get4(session, length - TRAILER);
     let count = get2(session, length - 4);
-    let mut card = [0u8; CARD];
-    copy(&mut card, 0, session, 0, CARD);
+    let mut card = card_of(session);
     let entries = run_records(session, start, count, &mut card, log);
     copy(log, entries, &card, 0, CARD);
     put_trailer(log, entries + CARD, entries, count);

@@ -1,14 +1,34 @@
-// A session from standard input, run, and its listing on standard output.
+// A session from standard input, run, and its listing on standard output. With the argument --box it is run as the box runs it.
+ghost use Prim.Native.Nat.{_≤_};
+ghost use lib.ListN.{length};
+use box_listing::print_boxed;
+use check::same;
 use io::read_full;
 use io::write_all;
 use listing::print;
 use sizes::INPUT;
 use sizes::TEXT_SPACE;
 
+// Whether the first argument is --box.
+fn is_boxed() -> bool {
+    let mut argument = [0u8; 5];
+    let length = os::arg(1, &mut argument);
+    same(&argument[..length], b"--box")
+}
+
+fn print_as_asked(session: &[u8], text: &mut [u8; TEXT_SPACE]) -> usize
+    ensures { λ r. ⌜ r ≤ length (now (text .exit)) ⌝ }
+{
+    if is_boxed() {
+        return print_boxed(session, text);
+    }
+    print(session, text)
+}
+
 fn main() {
     let mut input = [0u8; INPUT];
     let read = read_full(0, &mut input);
     let mut text = [0u8; TEXT_SPACE];
-    let written = print(&input[..read], &mut text);
+    let written = print_as_asked(&input[..read], &mut text);
     write_all(1, &text[..written]);
 }

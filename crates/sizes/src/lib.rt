@@ -39,6 +39,11 @@ pub const LEAST_LOG: usize = CARD + TRAILER;
 
 pub const MOST_RECORDS: usize = 4096;
 
+// The longest session that the box takes, and the most records.
+pub const BOX_SESSION: usize = 4096;
+
+pub const BOX_RECORDS: usize = 64;
+
 // The longest title that the session writer takes.
 pub const MOST_TITLE: usize = 255;
 

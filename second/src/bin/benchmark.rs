@@ -29,6 +29,7 @@ type Write = fn(&[u8], &[u8], &[u8], u64, &mut [u8]) -> u64;
 type Mend = fn(&mut [u8]) -> u64;
 
 const RUNS: [Run; 2] = [proved::at88sc1608_run, encoded::at88sc1608_run];
+const BOX_RUNS: [Run; 2] = [proved::at88sc1608_box_run, encoded::at88sc1608_box_run];
 const ANSWERS: [Answer; 2] = [proved::at88sc1608_answer, encoded::at88sc1608_answer];
 const WRITES: [Write; 2] = [proved::at88sc1608_write_session, encoded::at88sc1608_write_session];
 
@@ -69,6 +70,13 @@ fn best_of<const SIDES: usize>(
     best
 }
 
+fn heading() {
+    println!(
+        "{:<34} {:<10} {:>14} {:>14} {:>7}",
+        "workload", "per second", "proved", "second", "ratio"
+    );
+}
+
 fn row(name: &str, unit: &str, items: f64, [proved, second]: [f64; 2]) {
     let (proved, second) = (items / proved, items / second);
     let ratio = proved / second;
@@ -93,13 +101,21 @@ fn left_out(name: &str) {
 }
 
 fn sessions(name: &str, sessions: &[Vec<u8>], log: &mut [u8]) {
-    if sessions.iter().any(|session| RUNS[0](session, log) & 0xFF != 0) {
+    sessions_by(RUNS, name, sessions, log);
+}
+
+fn boxed_sessions(name: &str, sessions: &[Vec<u8>], log: &mut [u8]) {
+    sessions_by(BOX_RUNS, name, sessions, log);
+}
+
+fn sessions_by(runs: [Run; 2], name: &str, sessions: &[Vec<u8>], log: &mut [u8]) {
+    if sessions.iter().any(|session| runs[0](session, log) & 0xFF != 0) {
         return left_out(name);
     }
     let records: u64 = sessions.iter().map(|session| count(session)).sum();
     let time = best(|side| {
         for session in sessions {
-            assert_eq!(black_box(RUNS[side](black_box(session), log)) & 0xFF, 0);
+            assert_eq!(black_box(runs[side](black_box(session), log)) & 0xFF, 0);
         }
     });
     row(name, "sessions", sessions.len() as f64, time);
@@ -199,13 +215,10 @@ fn main() {
     let staged = Author::new(0).times(512, |a| a.staged_write(0, b"survives").ready()).session();
     let met_busy = most(16, |a| a.write(0, b"busy").times(14, |a| a.read(0x80, 0)).ready());
 
-    println!(
-        "{:<34} {:<10} {:>14} {:>14} {:>7}",
-        "workload", "per second", "proved", "second", "ratio"
-    );
+    heading();
     sessions("realistic mix, 60 records each", &waiting, &mut log);
     sessions("mix with power cycles for waits", &power_cycled, &mut log);
-    sessions("empty session", &[empty], &mut log);
+    sessions("empty session", std::slice::from_ref(&empty), &mut log);
     sessions("4,096 short records", std::slice::from_ref(&short), &mut log);
     sessions("4,096 zone reads of 256", std::slice::from_ref(&zone_reads), &mut log);
     sessions("4,096 closed zone reads of 256", &[closed_reads], &mut log);
@@ -216,6 +229,8 @@ fn main() {
     sessions("512 writes, polled until ready", &[writes], &mut log);
     sessions("512 staged writes of 8, waited for", &[staged], &mut log);
     sessions("4,096 records, most met while busy", std::slice::from_ref(&met_busy), &mut log);
+    boxed_sessions("realistic mix, in the box", &waiting, &mut log);
+    boxed_sessions("empty session, in the box", &[empty], &mut log);
     log_reads("log reads, 60 records", &power_cycled[0], &mut log);
     log_reads("log reads, 4,096 short records", &short, &mut log);
     log_reads("log reads, 4,096 zone reads", &zone_reads, &mut log);

@@ -445,8 +445,8 @@ fn a_log_of_a_busy_card_is_read() {
     assert_eq!([0, 1, 3].map(answer), [Ok(&[][..]); 3]);
     assert_eq!((answer(2), answer(4)), (Ok(&[1][..]), Ok(&[6][..])));
     assert_eq!(answer(5), Err(Refusal::NoSuchAnswer));
-    assert_eq!(encoded::at88sc1608_answer(&log[..length], 1), 7 << 40);
-    assert_eq!(encoded::at88sc1608_answer(&log[..length], 2), 1 << 8 | 10 << 40);
+    assert_eq!(encoded::at88sc1608_answer(&log[..length], 1), 5 << 24 | 7 << 40);
+    assert_eq!(encoded::at88sc1608_answer(&log[..length], 2), 1 << 8 | 5 << 24 | 10 << 40);
 }
 
 #[test]

@@ -139,7 +139,7 @@ fn one_ending_alone_is_a_log() {
     let entries = [5, 0, 0, 4, 1, 0, 0];
     let mut log = log_of(&entries, 2, ZONED);
     assert_eq!([0, 1].map(|number| log::find(&log, number)), [Ok(4..4), Ok(7..7)]);
-    assert_eq!(encoded::at88sc1608_answer(&log, 1), 7 << 40);
+    assert_eq!(encoded::at88sc1608_answer(&log, 1), 2 << 24 | 7 << 40);
     assert_eq!(log::find(&log, 2), Err(Refusal::NoSuchAnswer));
     let at = log.len() - 2;
     for ending in 0..=0xFFFFu16 {

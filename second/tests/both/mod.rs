@@ -3,7 +3,7 @@
 //! Whatever is lent lies between guard bytes. A difference ends the test and prints the input.
 
 use second::encoded;
-use second::layout::TRAILER;
+use second::layout::{SHORTEST_LOG, TRAILER};
 use second::writer::Parts;
 
 use crate::proved;
@@ -105,20 +105,66 @@ pub fn answered(
     (proved, p[3].bytes().to_vec())
 }
 
+type Run = fn(&[u8], &mut [u8]) -> u64;
+
 /// A session on both; answers the result and the log space.
 pub fn run(seed: &str, session: &[u8], space: usize) -> (u64, Vec<u8>) {
+    let runs = [proved::at88sc1608_run, encoded::at88sc1608_run];
+    run_by(seed, "at88sc1608_run", runs, session, space)
+}
+
+/// The same in the box.
+pub fn box_run(seed: &str, session: &[u8], space: usize) -> (u64, Vec<u8>) {
+    let runs = [proved::at88sc1608_box_run, encoded::at88sc1608_box_run];
+    run_by(seed, "at88sc1608_box_run", runs, session, space)
+}
+
+fn run_by(
+    seed: &str,
+    name: &str,
+    [proved, second]: [Run; 2],
+    session: &[u8],
+    space: usize,
+) -> (u64, Vec<u8>) {
     let log = filled(space);
     let (mut ps, mut ss) = (Lent::new(session), Lent::new(session));
     let (mut pl, mut sl) = (Lent::new(&log), Lent::new(&log));
-    let proved = proved::at88sc1608_run(ps.bytes(), pl.bytes());
-    let second = encoded::at88sc1608_run(ss.bytes(), sl.bytes());
-    let call = format!("at88sc1608_run with log space {space}");
+    let proved = proved(ps.bytes(), pl.bytes());
+    let second = second(ss.bytes(), sl.bytes());
+    let call = format!("{name} with log space {space}");
     let lent = [(&ps, &ss), (&pl, &sl)];
     agree(seed, &call, &[("session", session)], (proved, second), &lent);
     untouched(proved, &[&log], &mut [&mut pl]);
     let written = (proved >> 8) as usize;
     assert!(pl.bytes()[written..] == log[written..], "slack is kept");
     (proved, pl.bytes().to_vec())
+}
+
+/// How many entries a sound log has, from header to header up to its final card. Its trailer plays
+/// no part.
+fn entries_in(log: &[u8]) -> u64 {
+    let card_at = log.len() - SHORTEST_LOG;
+    let (mut at, mut entries) = (0, 0);
+    while at < card_at {
+        let zone = usize::from([4, 5, 132, 133].contains(&log[at]));
+        at += 3 + zone + usize::from(log[at + 1]) + 256 * usize::from(log[at + 2]);
+        entries += 1;
+    }
+    entries
+}
+
+/// Fails if the result of a log read tells more than it should: of no log its number alone; where
+/// there is no such answer, the number and the headers; and of a log as many headers as it has.
+fn headers_told(seed: &str, log: &[u8], result: u64) {
+    let (refusal, headers) = (result & 0xFF, result >> 24 & 0xFFFF);
+    let alone = refusal | headers << 24;
+    match refusal {
+        0 | 14 => {
+            assert_eq!(headers, entries_in(log), "seed {seed}, log {}", hex(log));
+            assert!(refusal == 0 || result == alone, "14 has its number and the headers alone");
+        }
+        _ => assert_eq!(result, 13, "what is no log has its number alone"),
+    }
 }
 
 /// A log read on both.
@@ -128,6 +174,7 @@ pub fn answer(seed: &str, log: &[u8], number: u64) -> u64 {
     let second = encoded::at88sc1608_answer(sl.bytes(), number);
     let call = format!("at88sc1608_answer with number {number}");
     agree(seed, &call, &[("log", log)], (proved, second), &[(&pl, &sl)]);
+    headers_told(seed, log, proved);
     proved
 }
 

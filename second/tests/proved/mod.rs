@@ -4,6 +4,8 @@
 extern "C" {
     #[link_name = "at88sc1608_run"]
     fn linked_run(session: *const u8, session_len: usize, log: *mut u8, log_len: usize) -> u64;
+    #[link_name = "at88sc1608_box_run"]
+    fn linked_box_run(session: *const u8, session_len: usize, log: *mut u8, log_len: usize) -> u64;
     #[link_name = "at88sc1608_command"]
     fn linked_command(
         card: *mut u8,
@@ -38,6 +40,11 @@ extern "C" {
 pub fn at88sc1608_run(session: &[u8], log: &mut [u8]) -> u64 {
     // Sound as long as the library stays within the lengths it is given.
     unsafe { linked_run(session.as_ptr(), session.len(), log.as_mut_ptr(), log.len()) }
+}
+
+pub fn at88sc1608_box_run(session: &[u8], log: &mut [u8]) -> u64 {
+    // Sound as long as the library stays within the lengths it is given.
+    unsafe { linked_box_run(session.as_ptr(), session.len(), log.as_mut_ptr(), log.len()) }
 }
 
 #[allow(dead_code)] // The benchmark has no use for it.

@@ -30,9 +30,14 @@ fn fits(kind: u8, length: usize) -> bool {
     }
 }
 
-/// The result of a log read that finds a response.
-fn found(at: usize, length: usize) -> u64 {
-    (at as u64) << 40 | (length as u64) << 8
+/// The result of a read of a log of so many entries that finds a response.
+fn found(at: usize, length: usize, entries: usize) -> u64 {
+    (at as u64) << 40 | (entries as u64) << 24 | (length as u64) << 8
+}
+
+/// The result of one that finds none.
+fn none(entries: usize) -> u64 {
+    (entries as u64) << 24 | 14
 }
 
 /// What reading a log gives for each answer, and for the number behind the last.
@@ -50,7 +55,7 @@ fn second_of_three(kind: u8, length: usize, zone: Option<u8>, mark: [u8; 2]) {
         && zone.is_none_or(|zone| zone < 8);
     let expected = if good {
         let at = 7 + usize::from(zone.is_some());
-        [found(3, 1), found(at, length), found(at + length + 3, 0), 14]
+        [found(3, 1, 3), found(at, length, 3), found(at + length + 3, 0, 3), none(3)]
     } else {
         [13; 4]
     };
@@ -103,8 +108,8 @@ fn every_ending() {
         for ending in 0..=0xFFFFu16 {
             log[at..].copy_from_slice(&ending.to_be_bytes());
             let expected = match (ending, which) {
-                (0x4C50, 1) => found(4, 1),
-                (0x4C50, 2) => found(7, 0),
+                (0x4C50, 1) => found(4, 1, 1),
+                (0x4C50, 2) => found(7, 0, 2),
                 _ => 13,
             };
             let result = both::answer(FIXED, &log, u64::from(count) - 1);
@@ -160,9 +165,9 @@ fn laid_out(entries: &[Logged], mark: [u8; 2]) -> (Vec<u8>, Vec<u64>) {
     let (mut bytes, mut expected) = (Vec::new(), Vec::new());
     for (kind, zone, response) in entries {
         bytes.extend(entry(*kind, named(*kind, mark).then_some(*zone), response));
-        expected.push(found(bytes.len() - response.len(), response.len()));
+        expected.push(found(bytes.len() - response.len(), response.len(), entries.len()));
     }
-    expected.push(14);
+    expected.push(none(entries.len()));
     if mark == PLAIN {
         expected.fill(13);
     }
@@ -306,7 +311,7 @@ pub fn follow(seed: &str, session: &[u8], met: &mut Met) {
         let expected = entry(kind, naming.then_some(zone), &response[..length]);
         at += expected.len();
         assert_eq!(log[at - expected.len()..at], expected, "{seed}, record {number}");
-        assert_eq!(both::answer(seed, log, number), found(at - length, length));
+        assert_eq!(both::answer(seed, log, number), found(at - length, length, records.len()));
         assert_eq!(both::answer(seed, &plain, number), 13);
         note(met, kind, zone);
         zone = match kind {
@@ -319,7 +324,8 @@ pub fn follow(seed: &str, session: &[u8], met: &mut Met) {
     let count = records.len() as u16;
     let end = [&(at as u32).to_le_bytes()[..], &count.to_le_bytes(), &ZONED].concat();
     assert!(log[at..] == [card, end].concat(), "{seed}: the log's end");
-    assert_eq!([log, &plain].map(|log| both::answer(seed, log, count.into())), [14, 13]);
+    let behind = [log, &plain].map(|log| both::answer(seed, log, count.into()));
+    assert_eq!(behind, [none(records.len()), 13]);
 }
 
 #[test]

@@ -1,4 +1,4 @@
--- What `print` gives back lies within the text.
+-- What is printed lies within the text.
 use borrow.Author.Needs.{needs}
 use lib.Seq.{length-take-le}
 use mathlib.Core.Path.{sym}
@@ -14,17 +14,17 @@ read-full-requires c κs = search needs
 array-share-prefix-input : tie.Need-array-share-prefix-input
 array-share-prefix-input c = search needs
 
-slice-aggregate-print : tie.Need-slice-aggregate-print
-slice-aggregate-print c = search needs
+slice-aggregate-print-as-asked : tie.Need-slice-aggregate-print-as-asked
+slice-aggregate-print-as-asked c = search needs
 
-print-requires : tie.Need-print-requires
-print-requires c κs = search needs
+print-as-asked-requires : tie.Need-print-as-asked-requires
+print-as-asked-requires c κs = search needs
 
 array-share-prefix-text : tie.Need-array-share-prefix-text
-array-share-prefix-text c = c .print .ensures .within
+array-share-prefix-text c = c .print-as-asked .ensures
 
 slice-aggregate-write-all : tie.Need-slice-aggregate-write-all
-slice-aggregate-write-all c = sym (length-take-le _ _ (c .before .print .ensures .within))
+slice-aggregate-write-all c = sym (length-take-le _ _ (c .before .print-as-asked .ensures))
 
 write-all-requires : tie.Need-write-all-requires
 write-all-requires c κs = search needs
@@ -39,8 +39,8 @@ main-spec =
     slice-aggregate-read-full
     read-full-requires
     array-share-prefix-input
-    slice-aggregate-print
-    print-requires
+    slice-aggregate-print-as-asked
+    print-as-asked-requires
     array-share-prefix-text
     slice-aggregate-write-all
     write-all-requires

@@ -1,29 +1,37 @@
--- What is known before each entry is `Passing`.
+-- What is known before each entry is `Walking`.
 use Prim.Native.Nat.{_-_}
+use native.Mathlib.Omega.{arith}
 use borrow.Author.Needs.{needs}
-use Rattle.log.proofs.LogCheckLaws.{Passing, passing-start, passing-next, passing-bad, passing-done}
+use Rattle.log.proofs.LogCheckLaws.{Walking, walking-start, walking-next, walking-bad, walking-done}
 use Rattle.log.proofs.check.scan.Statement.{statement}
 use Rattle.log.proofs.check.scan.Tie as tie
 
 abbrev Inv-loop : tie.InvT-loop
-Inv-loop log count end number at₀ place₀ i₀ at place i = Passing log count end number i at place
+Inv-loop log count end number at₀ headers₀ from₀ to₀ i₀ at headers from to i = Walking log count end number i at headers from to
 
 abbrev μ-loop : tie.MeasureT-loop
-μ-loop log count end number at₀ place₀ i₀ at place i = count - i
+μ-loop log count end number at₀ headers₀ from₀ to₀ i₀ at headers from to i = count - i
 
 loop-holds : tie.Need-loop-holds Inv-loop μ-loop
-loop-holds c = passing-start _ _ _ _
+loop-holds c = walking-start _ _ _ _
 
-entry-end-requires : tie.Need-entry-end-requires Inv-loop μ-loop
-entry-end-requires c κs = search needs
+read-header-requires : tie.Need-read-header-requires Inv-loop μ-loop
+read-header-requires c κs = search needs
+
+add-headers : tie.Need-add-headers Inv-loop μ-loop
+add-headers c = let e = c .before .before .loop .inv .each in omega arith
 
 returns : tie.Need-returns Inv-loop μ-loop
 returns c =
-    let the-loop = c .before .before .before .loop in
-    passing-bad _ _ _ _ _ _ _ (the-loop .inv) _ (c .before .before .loop-test .taken) (c .before .entry-end .ensures) (c .if1 .taken)
+    let the-loop = c .before .before .before .before .loop in
+    let loop-test = c .before .before .before .loop-test in
+    walking-bad _ _ _ _ _ _ _ _ _ (the-loop .inv) (loop-test .taken) _ _ (c .before .before .read-header .ensures) (c .if1 .taken)
 
 kept-requires : tie.Need-kept-requires Inv-loop μ-loop
 kept-requires c κs = search needs
+
+kept-requires-2 : tie.Need-kept-requires-2 Inv-loop μ-loop
+kept-requires-2 c κs = search needs
 
 add-i : tie.Need-add-i Inv-loop μ-loop
 add-i c = search needs
@@ -33,12 +41,14 @@ loop-less c = search needs
 
 loop-again : tie.Need-loop-again Inv-loop μ-loop
 loop-again c =
-    let the-loop = c .before .before .before .before .loop in
-    let loop-test = c .before .before .before .loop-test in
-    passing-next _ _ _ _ _ _ _ (the-loop .inv) _ _ (loop-test .taken) (c .before .before .entry-end .ensures) (c .before .if1 .left) (c .kept .ensures)
+    let the-loop = c .before .before .before .before .before .before .loop in
+    let loop-test = c .before .before .before .before .before .loop-test in
+    let read-header = c .before .before .before .before .read-header in
+    walking-next _ _ _ _ _ _ _ _ _ (the-loop .inv) (loop-test .taken) _ _ (read-header .ensures) _ _ (c .before .before .if1 .left)
+    (c .before .kept .ensures) (c .kept2 .ensures)
 
 returns-2 : tie.Need-returns-2 Inv-loop μ-loop
-returns-2 c = passing-done _ _ _ _ _ _ _ (c .before .loop .inv) (search needs)
+returns-2 c = walking-done _ _ _ _ _ _ _ _ _ (c .before .loop .inv) (search needs)
 
 pub scan-spec : {M : Type 1} → statement M
 scan-spec =
@@ -47,9 +57,11 @@ scan-spec =
     Inv-loop
     μ-loop
     loop-holds
-    entry-end-requires
+    read-header-requires
+    add-headers
     returns
     kept-requires
+    kept-requires-2
     add-i
     loop-less
     loop-again

@@ -1,10 +1,10 @@
--- The empty part, or the part that was found.
+-- The empty part, or the part that was fetched.
 use mathlib.Core.Path.{_∙_}
 use native.Mathlib.Nat.{add-sub-cancel-left}
 use native.Mathlib.Omega.{arith}
 use borrow.Author.Needs.{needs}
-use Rattle.log.proofs.find.part_found.Statement.{statement}
-use Rattle.log.proofs.find.part_found.Tie as tie
+use Rattle.log.proofs.find.part_fetched.Statement.{statement}
+use Rattle.log.proofs.find.part_fetched.Tie as tie
 
 enum-told : tie.Need-enum-told
 enum-told c = search needs
@@ -27,5 +27,5 @@ returns c = search needs
 returns-2 : tie.Need-returns-2
 returns-2 c = c .part2 .ensures ∙ rw (c .before .before .found .given .1, add-sub-cancel-left)
 
-pub part-found-spec : {M : Type 1} → statement M
-part-found-spec = tie.close (tie.spec enum-told part-requires enum-known-found add-part part-requires-2 returns returns-2)
+pub part-fetched-spec : {M : Type 1} → statement M
+part-fetched-spec = tie.close (tie.spec enum-told part-requires enum-known-found add-part part-requires-2 returns returns-2)

@@ -1,0 +1,3 @@
+pub mod BoxListing
+pub mod BoxListingLaws
+pub mod BoxListingSecrecy
