@@ -50,11 +50,14 @@ printingSpace = 65536
 abbrev pub printed : List ℕ → List ℕ
 printed s = listing s (replicate printingSpace 0)
 
--- the call gives back its length; it stands whole at the front of the text space, whose other bytes are kept
-pub record Printed (s text : List ℕ) (size : ℕ) (text′ : List ℕ) : Type 0 where
-  pub whole : size ≡ length (printed s)
+-- a call that prints a text gives back its length; it stands whole at the front of the text space, whose other bytes are kept
+pub record PrintedText (t text : List ℕ) (size : ℕ) (text′ : List ℕ) : Type 0 where
+  pub whole : size ≡ length t
   pub within : size ≤ length text′
-  pub bytes : text′ ≡ sets text 0 (printed s)
+  pub bytes : text′ ≡ sets text 0 t
+
+abbrev pub Printed : List ℕ → List ℕ → ℕ → List ℕ → Type 0
+Printed s = PrintedText (printed s)
 
 -- ---- by places in a log that was written
 

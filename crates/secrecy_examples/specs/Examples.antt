@@ -29,7 +29,7 @@ use Rattle.secrecy.specs.CardSecrecy.{read-password, read-password-elsewhere, a
 
 -- ---- the conditions as tests
 
-abbrev presentsNeither : ℕ → List ℕ → List ℕ → Command → Bool
+abbrev pub presentsNeither : ℕ → List ℕ → List ℕ → Command → Bool
 presentsNeither p b₁ b₂ reset = true
 presentsNeither p b₁ b₂ (select z) = true
 presentsNeither p b₁ b₂ (readZone a n) = true
@@ -42,7 +42,7 @@ presentsNeither p b₁ b₂ (verifyPassword j xs) = not (eqb (j % 8) p) || (not 
 presentsNeither p b₁ b₂ beginAuthentication = true
 presentsNeither p b₁ b₂ (verifyAuthentication v xs) = true
 
-abbrev acceptsNot : Command → Bool
+abbrev pub acceptsNot : Command → Bool
 acceptsNot reset = true
 acceptsNot (select z) = true
 acceptsNot (readZone a n) = true
@@ -58,17 +58,17 @@ acceptsNot (verifyAuthentication v xs) = not v
 unequal : (xs ys : List ℕ) → not (sameList xs ys) ≡ true → xs ≡ ys → ⊥
 unequal xs ys e q = true≢false (sym (sameList-refl xs) ∙ ap (sameList xs) q ∙ not-true (sameList xs ys) e)
 
-presents-neither : (p : ℕ) (b₁ b₂ : List ℕ) (k : Command) → presentsNeither p b₁ b₂ k ≡ true → PresentsNeither p b₁ b₂ k
+pub presents-neither : (p : ℕ) (b₁ b₂ : List ℕ) (k : Command) → presentsNeither p b₁ b₂ k ≡ true → PresentsNeither p b₁ b₂ k
 presents-neither p b₁ b₂ k t j xs e q =
     let w : (not (sameList xs (password b₁ j)) && not (sameList xs (password b₂ j))) ≡ true =
     rw (eq-eqb (j % 8) p q) at (rw e at t) in
     (unequal xs (password b₁ j) (and-left _ _ w), unequal xs (password b₂ j) (and-right (not (sameList xs (password b₁ j))) _ w))
 
-accepts-not : (k : Command) → acceptsNot k ≡ true → AcceptsNot k
+pub accepts-not : (k : Command) → acceptsNot k ≡ true → AcceptsNot k
 accepts-not k t xs e = true≢false (sym (rw e at t))
 
 -- a test passes at every call of a list that is not refused
-abbrev onCommand : (Command → Bool) → Instruction → Bool
+abbrev pub onCommand : (Command → Bool) → Instruction → Bool
 onCommand test powerCycle = true
 onCommand test (issue k) = test k
 onCommand test (wait n) = true
@@ -97,21 +97,21 @@ along test Ok h (x ∷ xs) m t =
 -- ---- cards and calls
 
 -- a sealed card of $FF bytes
-abbrev blank : List ℕ
+abbrev pub blank : List ℕ
 blank = trials.blank 0
 
 abbrev call : List ℕ → ℕ → Call
 call bytes room = record { sent = bytes; space = replicate room 0x99 }
 
 -- a card and the same card with another byte at a hidden place
-agree-set : (hidden : ℕ → Bool) (b c : List ℕ) (i v : ℕ) → AgreeOutside hidden b c → hidden i ≡ true → AgreeOutside hidden b (set c i v)
+pub agree-set : (hidden : ℕ → Bool) (b c : List ℕ) (i v : ℕ) → AgreeOutside hidden b c → hidden i ≡ true → AgreeOutside hidden b (set c i v)
 agree-set hidden b c i v h t =
     record {
       long = h .long ∙ sym (length-set c i v);
       same = λ j o. h .same j o ∙ sym (at-set-other c i v j (λ q. true≢false (sym t ∙ ap hidden (sym q) ∙ o)));
     }
 
-agree-self : (hidden : ℕ → Bool) (b : List ℕ) → AgreeOutside hidden b b
+pub agree-self : (hidden : ℕ → Bool) (b : List ℕ) → AgreeOutside hidden b b
 agree-self hidden b = record { long = refl; same = λ j o. refl }
 
 -- what is computed of a run: the refusals, the tries, the kinds, the first byte of a response space, a byte of the final card
@@ -134,10 +134,10 @@ finalByte i xs b = at (final xs (powered b powerOn) .card) i
 
 -- zone 2 demands the read password of set 3 (RPE and PGO enabled, $AE); the other card has another byte in the zone, and
 -- another write password of set 3
-abbrev readCard : List ℕ
+abbrev pub readCard : List ℕ
 readCard = set (set blank (registerAt 2) 0xAE) 512 0x11
 
-abbrev readCard′ : List ℕ
+abbrev pub readCard′ : List ℕ
 readCard′ = set (set readCard 512 0x22) (passwordByte 3 0) 0x77
 
 -- Select zone 2, read it, write into it; read it and poll while the card is busy; wait, read it again; select 8 (refused with 7); the
@@ -212,10 +212,10 @@ tries-needed i = let e : _≡_ {A = ℕ} 8 7 = ap (λ (rs : List (Reply State)).
 -- ---- authentication
 
 -- zone 1 demands authentication ($DF); the other card has another byte in the zone
-abbrev authCard : List ℕ
+abbrev pub authCard : List ℕ
 authCard = set (set blank (registerAt 1) 0xDF) 256 0x11
 
-abbrev authCard′ : List ℕ
+abbrev pub authCard′ : List ℕ
 authCard′ = set authCard 256 0x22
 
 -- Select zone 1, read it, write into it; wait, begin authentication and be denied while the card is busy, and again when it is ready;

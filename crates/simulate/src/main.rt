@@ -1,6 +1,6 @@
 // A session from standard input, run, and its listing on standard output. With the argument --box it is run as the box runs it.
-ghost use Prim.Native.Nat.{_≤_};
-ghost use lib.ListN.{length};
+ghost use Rattle.listing.specs.Listing.{PrintedText};
+ghost use Rattle.box_listing.specs.BoxListing.{printedFor};
 use box_listing::print_boxed;
 use check::same;
 use io::read_full;
@@ -16,19 +16,21 @@ fn is_boxed() -> bool {
     same(&argument[..length], b"--box")
 }
 
-fn print_as_asked(session: &[u8], text: &mut [u8; TEXT_SPACE]) -> usize
-    ensures { λ r. ⌜ r ≤ length (now (text .exit)) ⌝ }
+// At the front of the text space, whole: what is printed of a session, for the box or for an exam machine.
+fn print_for(boxed: bool, session: &[u8], text: &mut [u8; TEXT_SPACE]) -> usize
+    ensures { λ r. ⌜ PrintedText (printedFor boxed (now (session .entry))) (now (text .entry)) r (now (text .exit)) ⌝ }
 {
-    if is_boxed() {
+    if boxed {
         return print_boxed(session, text);
     }
     print(session, text)
 }
 
 fn main() {
+    let boxed = is_boxed();
     let mut input = [0u8; INPUT];
     let read = read_full(0, &mut input);
     let mut text = [0u8; TEXT_SPACE];
-    let written = print_as_asked(&input[..read], &mut text);
+    let written = print_for(boxed, &input[..read], &mut text);
     write_all(1, &text[..written]);
 }

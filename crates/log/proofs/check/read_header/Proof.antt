@@ -32,9 +32,7 @@ add-from-2 : tie.Need-add-from-2
 add-from-2 c = search needs
 
 abbrev entry : tie.Joined1 → tie.Start
-entry c =
-    let before = c .before .before .before .before .before in
-    before
+entry c = c .before .before .before .before .before
 
 -- where the response begins, whether the zone is named or not
 begun : (c : tie.Joined1) → Begun (entry c .args .log .now) (entry c .args .at) (c .if1 .from)
@@ -56,14 +54,14 @@ entry-fits-requires c κs = search needs
 returns-3 : tie.Need-returns-3
 returns-3 c =
     let get2 = c .before .before .before .before .before .before .get2 in
-    let before = c .before .before .before .before in
-    misfit _ _ _ _ _ (get2 .ensures .0) (begun (before)) _ (c .before .entry-fits .ensures) (c .if4 .taken)
+    let b = begun (c .before .before .before .before) in
+    misfit _ _ _ _ _ (get2 .ensures .0) b _ (c .before .entry-fits .ensures) (c .if4 .taken)
 
 returns-4 : tie.Need-returns-4
 returns-4 c =
     let get2 = c .before .before .before .before .before .before .get2 in
-    let before = c .before .before .before .before in
-    well-read _ _ _ _ _ (get2 .ensures .0) (begun (before)) _ (c .before .entry-fits .ensures) (c .before .before .if3 .left) (c .if4 .left)
+    let b = begun (c .before .before .before .before) in
+    well-read _ _ _ _ _ (get2 .ensures .0) b _ (c .before .entry-fits .ensures) (c .before .before .if3 .left) (c .if4 .left)
 
 pub read-header-spec : {M : Type 1} → statement M
 read-header-spec =

@@ -36,44 +36,38 @@ run-records-requires c κs =
     records-ready _ _ (start .pre) _ _ _ (c .before .before .card-of .ensures) (get4 .ensures .0) (get2 .ensures .0)
 
 abbrev entry : tie.After-run-records → tie.Start
-entry c =
-    let before = c .before .before .before .before .before .before .before .before in
-    before
+entry c = c .before .before .before .before .before .before .before .before
 
 -- behind the records: the entries, with a card and a trailer, have room
 room : (c : tie.After-run-records) → c .run-records .result + leastLog ≤ length (entry c .args .log .now)
 room c =
-    let get4-2 = c .before .before .before .before .before .get4 in
-    let get2-2 = c .before .before .before .before .get2 in
-    let card-of-2 = c .before .before .before .card-of in
-    let start = entry c in
-    let get4 = get4-2 in
-    let get2 = get2-2 in
-    let card-of = card-of-2 in
-    entries-room _ _ (start .pre) _ _ _ (card-of .ensures) (get4 .ensures .0) (get2 .ensures .0) _ _ _ (c .run-records .ensures)
+    let get4 = c .before .before .before .before .before .get4 in
+    let get2 = c .before .before .before .before .get2 in
+    let card-of = c .before .before .before .card-of in
+    entries-room _ _ (entry c .pre) _ _ _ (card-of .ensures) (get4 .ensures .0) (get2 .ensures .0) _ _ _ (c .run-records .ensures)
 
 slice-aggregate-copy : tie.Need-slice-aggregate-copy
 slice-aggregate-copy c = search needs
 
 copy-requires : tie.Need-copy-requires
 copy-requires c κs =
-    let before = c .before .before .before .before .before in
-    let e = room before in search needs
+    let records = c .before .before .before .before .before in
+    let e = room records in search needs
 
 add-put-trailer : tie.Need-add-put-trailer
 add-put-trailer c =
-    let before = c .before .before .before .before .before .before .before .before .before in
-    let e = room before in omega arith
+    let records = c .before .before .before .before .before .before .before .before .before in
+    let e = room records in omega arith
 
 put-trailer-requires : tie.Need-put-trailer-requires
 put-trailer-requires c κs =
-    let before = c .before .before .before .before .before .before .before .before .before in
-    let e = room before in omega arith
+    let records = c .before .before .before .before .before .before .before .before .before in
+    let e = room records in omega arith
 
 add-result : tie.Need-add-result
 add-result c =
-    let before = c .before .before .before .before .before .before .before .before .before .before .before .before in
-    let e = room before in omega arith
+    let records = c .before .before .before .before .before .before .before .before .before .before .before .before in
+    let e = room records in omega arith
 
 same-length : tie.Need-same-length
 same-length c = search needs
