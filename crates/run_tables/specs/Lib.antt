@@ -1,7 +1,5 @@
 -- What runs show, computed, to be compared with the requests.
 pub mod NamedZones
-pub mod FetchedAnswers
 pub mod WrittenSessions
 pub mod MendedSessions
-pub mod BoxedSessions
 pub mod TornWrites

@@ -16,9 +16,12 @@ use Rattle.tables.specs.Computed.{computed}
 abbrev session : List ℕ → List ℕ → ℕ → ℕ → ℕ → List ℕ
 session card behind start count last = card ++ (behind ++ (bytesOf 4 start ++ (bytesOf 2 count ++ (0x53 ∷ last ∷ []))))
 
--- n records that read the fuses; n bytes of text and no record
+-- n records that read the fuses; n that are counted, and none there; n bytes of text and no record
 abbrev recorded : ℕ → List ℕ
 recorded n = session (blank 7) (replicate n 8) cardSize n 0x45
+
+abbrev counted : ℕ → List ℕ
+counted n = session (blank 7) [] cardSize n 0x45
 
 abbrev texted : ℕ → List ℕ
 texted n = session (blank 7) (replicate n 0x41) cardSize 0 0x45
@@ -39,10 +42,10 @@ onMachine s = told (run s (replicate 4000 0))
 
 unfoldable pub boxedSessions : List Case
 boxedSessions =
-    -- 64 records and 65
+    -- a record is run as on an exam machine; 64 records are, and where 64 are counted and none is there it is 8; 65 are too many
     (
-      inBox (recorded 64) ∷ onMachine (recorded 64) ∷ inBox (recorded 65) ∷ onMachine (recorded 65) ∷ [],
-      (0 ∷ 2453 ∷ []) ∷ (0 ∷ 2453 ∷ []) ∷ (18 ∷ 0 ∷ []) ∷ (0 ∷ 2457 ∷ []) ∷ [],
+      inBox (recorded 1) ∷ onMachine (recorded 1) ∷ inBox (recorded 64) ∷ inBox (counted 64) ∷ inBox (counted 65) ∷ onMachine (counted 65) ∷ [],
+      (0 ∷ 2201 ∷ []) ∷ (0 ∷ 2201 ∷ []) ∷ (0 ∷ 2453 ∷ []) ∷ (8 ∷ 0 ∷ []) ∷ (18 ∷ 0 ∷ []) ∷ (8 ∷ 0 ∷ []) ∷ [],
     )
     -- 4,096 bytes and 4,097; what is left of them is text, so 9
     ∷ (
