@@ -5,7 +5,7 @@ ghost use Rattle.access.specs.Register.{fields_of};
 use crate::volatile::PwSet;
 
 // A field is true where the demand is enabled, that is, where its bit is 0.
-#[derive(Drop)]
+#[derive(Clone, Copy)]
 pub struct Register {
     pub wpe: bool,
     pub rpe: bool,

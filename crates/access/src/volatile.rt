@@ -5,27 +5,27 @@ ghost use Rattle.model.specs.Volatile as model;
 ghost use Rattle.access.specs.VolatileState.{active_of, authentication_of, volatile_of};
 
 // The number of a zone and that of a password set, each from 0 to 7: two types, so that neither passes for the other.
-#[derive(Drop)]
+#[derive(Clone, Copy)]
 pub struct Zone(pub u8);
 
-#[derive(Drop)]
+#[derive(Clone, Copy)]
 pub struct PwSet(pub u8);
 
 // The active password: a selector below 8 is the write password of that set, 8 more the read password.
-#[derive(Drop)]
+#[derive(Clone, Copy)]
 pub enum Active {
     None,
     Selector(u8),
 }
 
-#[derive(Drop)]
+#[derive(Clone, Copy)]
 pub enum Authentication {
     Idle,
     Begun,
     Granted,
 }
 
-#[derive(Drop)]
+#[derive(Clone, Copy)]
 pub struct Volatile {
     pub zone: Zone,
     pub active: Active,

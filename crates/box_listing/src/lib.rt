@@ -1,4 +1,6 @@
 // What the program prints of a session that the box runs.
+#![tactic(auto)]
+
 ghost use Rattle.box_listing.specs.BoxListing.{BoxPrinted};
 
 use box_run::box_refuses;

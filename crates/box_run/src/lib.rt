@@ -1,4 +1,6 @@
 // The box for practice: it takes shorter sessions with fewer records, and runs them as an exam machine does.
+#![tactic(auto)]
+
 ghost use Rattle.std.specs.Prelude.{◌≡◌};
 ghost use Rattle.model.specs.Box as model;
 ghost use Rattle.session.specs.Run.{ran_of};

@@ -1,4 +1,6 @@
 // The state of a card with its busy time, its power and what is armed: what a card ignores, and how time passes.
+#![tactic(auto)]
+
 ghost use Rattle.std.specs.Prelude.{◌≡◌, cond, not, ◌&&◌, ◌||◌, ◌-◌, ltb, length};
 ghost use Rattle.model.specs.Sizes.{card_size};
 ghost use Rattle.model.specs.At88sc1608.{at88sc1608};
@@ -20,14 +22,14 @@ use staging::tear::Tear;
 pub const WRITE_TIME: u8 = 10;
 
 // Whether the card lost power in a write and is off, and what is armed.
-#[derive(Drop)]
+#[derive(Clone, Copy)]
 pub struct Power {
     pub off: bool,
     pub tear: Tear,
 }
 
 // The volatile state; for how many milliseconds the card is still busy, 0 when it is ready; and its power.
-#[derive(Drop)]
+#[derive(Clone, Copy)]
 pub struct State {
     pub volatile: Volatile,
     pub busy: u8,

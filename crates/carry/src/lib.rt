@@ -1,4 +1,6 @@
 // A record that was admitted, and that the card does not ignore, is carried out.
+#![tactic(auto)]
+
 ghost use Rattle.std.specs.Prelude.{◌≤◌};
 ghost use Rattle.busy.specs.TimedState.{state_of};
 ghost use Rattle.record.specs.DecodedRecord.{asked_by};

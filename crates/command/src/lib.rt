@@ -1,4 +1,6 @@
 // The single command: one record on one card and its state.
+#![tactic(auto)]
+
 ghost use Rattle.std.specs.Prelude.{◌≡◌};
 ghost use Rattle.model.specs.Call.{calling};
 ghost use Rattle.model.specs.Single as model;
@@ -16,7 +18,7 @@ pub mod admit;
 
 // What a call gives back beside the response space. The kind is the record's, or that plus 128 where the card ignored it, and 0 with a
 // refusal; the tries are those left of the counter that the command used, 0 if it used none.
-#[derive(Drop)]
+#[derive(Clone, Copy)]
 pub struct Reply {
     pub outcome: Outcome,
     pub kind: u8,

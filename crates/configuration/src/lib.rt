@@ -1,4 +1,6 @@
 // The configuration's bytes, read and written by the table of permissions, and the answer to reset.
+#![tactic(auto)]
+
 ghost use Rattle.std.specs.Prelude.{◌≡◌, cond, ◌++◌, ◌+◌, ◌<◌, ◌≤◌, length, drop};
 ghost use Rattle.model.specs.At88sc1608.{configuration_at};
 ghost use Rattle.model.specs.Sizes.{card_size};

@@ -1,5 +1,7 @@
 // The C interface: a session, also in the box, a single command, an answer of a log, a session written, a session mended. Slices pass as a
 // pointer and a length.
+#![tactic(auto)]
+
 ghost use Rattle.std.specs.Prelude.{◌≡◌};
 ghost use Rattle.model.specs.LogCheck as model;
 ghost use Rattle.model.specs.Writer.{parts};
@@ -8,12 +10,12 @@ ghost use Rattle.exports.specs.Exports.{exported_writing, exported_mending};
 
 use box_run::box_run;
 use command::command;
-use session_log::find::{Found, fetch};
 use mender::mend;
 use mender::search::mend_by_search;
 use record::refusal::Outcome;
 use results::{answer_number, command_number, mend_number, result_number};
 use session::run;
+use session_log::find::{Found, fetch};
 use state_bytes::{read_state, write_state};
 use writer::write_session;
 

@@ -1,4 +1,6 @@
 // The header of an entry of a log, by the entry's kind byte.
+#![tactic(auto)]
+
 ghost use Rattle.std.specs.Prelude.{◌≡◌};
 ghost use Rattle.model.specs.Log as model;
 

@@ -1,4 +1,6 @@
 // A command that is issued to a card: kinds 2 to 12. Whether it makes the card busy is judged before.
+#![tactic(auto)]
+
 ghost use Rattle.std.specs.Prelude.{◌≡◌, [], ◌∷◌, ◌++◌, ◌≤◌, length, drop};
 ghost use Rattle.model.specs.Sizes.{card_size, fuse_at};
 ghost use Rattle.model.specs.Lists.{at};

@@ -1,4 +1,6 @@
 // What a kind tells, with a record's count: its fixed fields and their range, its data, and how long its answer is.
+#![tactic(auto)]
+
 ghost use Rattle.std.specs.Prelude.{◌≡◌, cond, ◌&&◌, [], ◌+◌, ◌*◌, ◌/◌, ◌%◌, ◌^◌, ◌≤◌, eqb};
 ghost use Rattle.model.specs.At88sc1608.{at88sc1608};
 ghost use Rattle.model.specs.Record as model;

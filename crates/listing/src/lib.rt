@@ -1,4 +1,6 @@
 // Listings: a session is run, and what an examiner reads of its log is written as text.
+#![tactic(auto)]
+
 ghost use Rattle.std.specs.Prelude.{◌≡◌};
 ghost use Rattle.listing.specs.Listing as model;
 ghost use Rattle.listing.specs.Listing.{Printed};

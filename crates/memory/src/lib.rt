@@ -1,3 +1,5 @@
 // The bytes of the zones, read and written.
+#![tactic(auto)]
+
 pub mod page;
 pub mod zone;

@@ -1,4 +1,6 @@
 // A session from standard input, mended, on standard output. A refusal goes to standard error, and so does whatever else went wrong.
+#![tactic(auto)]
+
 use io::{read_full, write_all};
 use libc::{STDIN_FILENO, STDOUT_FILENO};
 use mender::mend;

@@ -1,4 +1,6 @@
 // The trailer mender: the smallest start from which the bytes before a lost trailer are records, and the trailer that says so.
+#![tactic(auto)]
+
 ghost use Rattle.std.specs.Prelude.{◌≡◌, ◌≤◌, length};
 ghost use Rattle.model.specs.Sizes.{trailer_size};
 ghost use Rattle.model.specs.Mender as model;
@@ -15,14 +17,14 @@ pub mod search;
 pub mod table;
 
 // Where the records begin and how many they are; a count of 0 where no start parses.
-#[derive(Drop)]
+#[derive(Clone, Copy)]
 pub struct Found {
     pub start: usize,
     pub count: usize,
 }
 
 // What is given back beside the session; a refusal has 0 for both numbers.
-#[derive(Drop)]
+#[derive(Clone, Copy)]
 pub struct Mended {
     pub outcome: Outcome,
     pub start: usize,

@@ -1,4 +1,6 @@
 // Records read from a session: a reader, its place, and the record there.
+#![tactic(auto)]
+
 ghost use Rattle.std.specs.Prelude.{◌≡◌, length};
 ghost use Rattle.model.specs.Reader.{records_end, part_at, next_of};
 ghost use Rattle.record.specs.DecodedRecord.{decoded_of, measured_of, measure_of};
@@ -40,7 +42,7 @@ pub fn measure_from(session: &[u8], at: usize) -> Measured
 }
 
 // A place in a session's bytes, from which records are read.
-#[derive(Drop)]
+#[derive(Clone, Copy)]
 pub struct Reader<'a> {
     pub session: &'a [u8],
     pub at: usize,

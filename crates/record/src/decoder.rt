@@ -8,7 +8,7 @@ use access::volatile::Zone;
 use kinds::{answer_length, fixed_fields, in_range, is_known, read_count, record_length};
 
 // A record without its data bytes, which follow its fixed fields up to the record's end.
-#[derive(Drop)]
+#[derive(Clone, Copy)]
 pub enum Record {
     PowerCycle,
     Reset,
@@ -35,21 +35,21 @@ pub enum Record {
 }
 
 // A refusal, or a record and its length.
-#[derive(Drop)]
+#[derive(Clone, Copy)]
 pub enum Decoded {
     Refused(Refusal),
     Whole(Record, usize),
 }
 
 // A refusal, or the length of a record's answer in full and its own.
-#[derive(Drop)]
+#[derive(Clone, Copy)]
 pub enum Measured {
     Refused(Refusal),
     Whole(u16, usize),
 }
 
 // The kind byte and the two behind it, which are the fixed fields where the kind has them.
-#[derive(Drop)]
+#[derive(Clone, Copy)]
 pub struct Head {
     pub kind: u8,
     pub a: u8,

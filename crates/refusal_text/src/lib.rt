@@ -1,4 +1,6 @@
 // What a refusal means, in words on standard error.
+#![tactic(auto)]
+
 use io::{print_decimal, write_all};
 use libc::STDERR_FILENO;
 use record::refusal::{Refusal, number};

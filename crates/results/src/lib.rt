@@ -1,4 +1,6 @@
 // The numbers that the exported functions give back.
+#![tactic(auto)]
+
 ghost use Rattle.std.specs.Prelude.{◌≡◌, ◌*◌, ◌≤◌, ◌^◌};
 ghost use Rattle.model.specs.Sizes.{greatest_session, most_records};
 ghost use Rattle.record.specs.RefusalNumber.{outcome_number};

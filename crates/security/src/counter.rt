@@ -9,7 +9,7 @@ ghost use Rattle.security.specs.Counter.{spent_of};
 use sizes::{ATTEMPTS, COUNTERS, PASSWORDS};
 
 // A counter after a failed attempt, and the tries that are then left.
-#[derive(Drop)]
+#[derive(Clone, Copy)]
 pub struct SpentCounter {
     pub value: u8,
     pub tries: u8,

@@ -1,4 +1,6 @@
 // Passwords, authentication and fuses, and the attempts counters that guard them.
+#![tactic(auto)]
+
 pub mod authentication;
 pub mod counter;
 pub mod fuse;

@@ -7,7 +7,7 @@ ghost use Rattle.security.specs.Report.{report_of};
 use access::volatile::Volatile;
 
 // The state after it, and the tries left of the counter that it used, 0 if it used none.
-#[derive(Drop)]
+#[derive(Clone, Copy)]
 pub struct Report {
     pub state: Volatile,
     pub tries: u8,

@@ -1,4 +1,6 @@
 // A session: checked whole, run on its card, and logged.
+#![tactic(auto)]
+
 ghost use Rattle.std.specs.Prelude.{◌≡◌};
 ghost use Rattle.model.specs.Session as model;
 ghost use Rattle.session.specs.Run.{ran_of};

@@ -10,15 +10,15 @@ ghost use Rattle.session.specs.Run.{EntryReady, EntryWritten, RecordsReady, Reco
 use busy::{State, is_halted, is_ignored, power_on};
 use carry::carry_out;
 use kinds::{answer_length, record_length};
-use session_log::write::{put_header, put_trailer};
 use reader::records_end;
 use record::decoder::{Head, head_of};
 use record::number::{get2, get4};
+use session_log::write::{put_header, put_trailer};
 use sizes::{CARD, LEAST_LOG, TRAILER};
 use slices::copy;
 
 // The state after a record, and where its entry ends.
-#[derive(Drop)]
+#[derive(Clone, Copy)]
 pub struct Entered {
     pub state: State,
     pub end: usize,

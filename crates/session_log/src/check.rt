@@ -26,7 +26,7 @@ fn entry_fits(kind: u8, response: usize) -> bool
 }
 
 // An entry's header as it was read: where the response begins, and where the entry ends.
-#[derive(Drop)]
+#[derive(Clone, Copy)]
 struct Header {
     from: usize,
     end: usize,
@@ -59,7 +59,7 @@ fn read_header(log: &[u8], at: usize, last: usize) -> Header
 
 // What a walk over the entries finds: whether they are all well and end at the card, how many headers it read, and where the response of one of
 // them begins and ends.
-#[derive(Drop)]
+#[derive(Clone, Copy)]
 pub struct Entries {
     pub ok: bool,
     pub headers: usize,

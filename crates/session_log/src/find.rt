@@ -13,7 +13,7 @@ use sizes::{FUSES, LEAST_LOG, MOST_RECORDS, TRAILER};
 use staging::staging_fits;
 
 // A refusal, or where an answer begins and how long it is.
-#[derive(Drop)]
+#[derive(Clone, Copy)]
 pub enum Found {
     Refused(Refusal),
     At(usize, usize),
@@ -47,7 +47,7 @@ fn trailer_ok(log: &[u8]) -> bool
 }
 
 // What is found, and how many entry headers were read for it.
-#[derive(Drop)]
+#[derive(Clone, Copy)]
 pub struct Fetched {
     pub found: Found,
     pub headers: usize,
@@ -106,7 +106,7 @@ fn part_fetched(log: &[u8], fetched: Fetched) -> &[u8]
 }
 
 // An answer read from a log: a refusal or where it lies, with the headers read, and its bytes, a part of the log; no bytes where it is refused.
-#[derive(Drop)]
+#[derive(Clone, Copy)]
 pub struct Answer<'a> {
     pub fetched: Fetched,
     pub bytes: &'a [u8],

@@ -1,4 +1,6 @@
 // The log: its entries and trailer written, a log checked, an answer found in it.
+#![tactic(auto)]
+
 pub mod check;
 pub mod find;
 pub mod write;

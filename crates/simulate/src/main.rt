@@ -1,4 +1,6 @@
 // A session from standard input, run, and its listing on standard output. With the argument --box it is run as the box runs it.
+#![tactic(auto)]
+
 ghost use Rattle.listing.specs.Listing.{PrintedText};
 ghost use Rattle.box_listing.specs.BoxListing.{printed_for};
 

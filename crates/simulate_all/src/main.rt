@@ -1,4 +1,6 @@
 // Many sessions from standard input, each behind its length in four bytes, and their listings one after another.
+#![tactic(auto)]
+
 ghost use Rattle.std.specs.Prelude.{◌≤◌, length};
 
 use io::{read_full, write_all};

@@ -1,4 +1,5 @@
 // The sizes of the card, of sessions and of logs, each under one name.
+#![tactic(auto)]
 
 // The card's map: where the configuration starts, its access registers, the authentication attempts counter, the cryptogram, the
 // passwords with their attempts counters, the fuse byte, the staging bytes: the flag, what names a write, its values; and the length of

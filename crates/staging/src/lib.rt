@@ -1,4 +1,6 @@
 // The staging bytes of a card, and the cells that a staged write and its finishing write, torn or not.
+#![tactic(auto)]
+
 ghost use Rattle.std.specs.Prelude.{◌≡◌, ◌+◌, ◌≤◌, length, drop};
 ghost use Rattle.model.specs.Sizes.{card_size};
 ghost use Rattle.model.specs.Single.{staging_fits};

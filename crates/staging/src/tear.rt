@@ -3,7 +3,7 @@ ghost use Rattle.std.specs.Prelude.{◌≡◌};
 ghost use Rattle.staging.specs.Fuel.{tear_of, fuel_of, junk_of};
 
 // Nothing, or a tear after so many cell writes that leaves a junk byte.
-#[derive(Drop)]
+#[derive(Clone, Copy)]
 pub enum Tear {
     Untorn,
     After(u8, u8),

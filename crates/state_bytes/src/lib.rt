@@ -1,4 +1,6 @@
 // The state of a card as nine bytes.
+#![tactic(auto)]
+
 ghost use Rattle.std.specs.Prelude.{◌≡◌, length};
 ghost use Rattle.access.specs.VolatileState.{active_of, authentication_of};
 ghost use Rattle.staging.specs.Fuel.{tear_of};

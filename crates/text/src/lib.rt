@@ -1,4 +1,6 @@
 // Text put into a space from a place on. Each call gives back the place past it; what the space has no room for is left out.
+#![tactic(auto)]
+
 ghost use Rattle.std.specs.Prelude.{◌+◌, ◌*◌, ◌<◌, ◌^◌, ◌≡◌, [], ◌∷◌, length};
 ghost use Rattle.text.specs.Put.{Put};
 ghost use Rattle.text.specs.Text as model;

@@ -10,7 +10,7 @@ use busy::{State, time_after, timed};
 use security::report::{Report, reporting};
 
 // The state, and the tries left of the counter that the record used, 0 if none.
-#[derive(Drop)]
+#[derive(Clone, Copy)]
 pub struct Done {
     pub state: State,
     pub tries: u8,

@@ -1,4 +1,6 @@
 // Kinds 9 to 12 with their time: what opens and closes, and whether the card is then busy, which is judged before.
+#![tactic(auto)]
+
 ghost use Rattle.std.specs.Prelude.{◌≡◌, length};
 ghost use Rattle.model.specs.Sizes.{card_size};
 ghost use Rattle.model.specs.Instruction.{write_fuses, verify_password, begin_authentication, verify_authentication};

@@ -1,4 +1,6 @@
 // A session checked whole before anything runs: 1 to 5, 16, the records in turn, 9.
+#![tactic(auto)]
+
 ghost use Rattle.std.specs.Prelude.{◌≡◌, ◌≤◌, length};
 ghost use Rattle.model.specs.Sizes.{most_records};
 ghost use Rattle.model.specs.Reader.{records_end};
@@ -16,7 +18,7 @@ use sizes::{CARD, FUSES, GREATEST_SESSION, LEAST_SESSION, MOST_RECORDS, TRAILER}
 use staging::staging_fits;
 
 // A refusal, or how long the entries of the log would be if every record were answered in full.
-#[derive(Drop)]
+#[derive(Clone, Copy)]
 pub enum Checked {
     Refused(Refusal),
     Entries(usize),

@@ -1,5 +1,7 @@
 // A session written to standard output. Its parts are the arguments: the file of the card, the file of the records, their count in decimal
 // digits, and the title, which may be left out. A refusal goes to standard error, and so does whatever else went wrong.
+#![tactic(auto)]
+
 ghost use Rattle.io.specs.Counts.{IsPrefixLen};
 
 use crate::count::count_of;

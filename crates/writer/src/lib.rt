@@ -1,4 +1,6 @@
 // The session writer: a session from a card, a title, records laid end to end and their count.
+#![tactic(auto)]
+
 ghost use Rattle.std.specs.Prelude.{◌≡◌};
 ghost use Rattle.model.specs.Writer.{parts, records_refusal, parts_refusal, write_session};
 ghost use Rattle.record.specs.RefusalNumber.{outcome_number};
@@ -13,7 +15,7 @@ use staging::staging_fits;
 use trailer::put;
 
 // What is given back beside the space for the session.
-#[derive(Drop)]
+#[derive(Clone, Copy)]
 pub struct Written {
     pub outcome: Outcome,
     pub size: usize,

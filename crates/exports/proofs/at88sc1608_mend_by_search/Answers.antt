@@ -1,0 +1,12 @@
+-- From what was mended and its number.
+use native.Mathlib.Omega.{arith}
+use Rattle.exports.proofs.ExportLaws.{mending_fits, mending_told}
+use Rattle.exports.proofs.at88sc1608_mend_by_search.Goals as goal
+
+pub mend_number-requires : goal.mend_number-requires
+mend_number-requires c =
+    let f = mending_fits _ _ c.mend_by_search-searched.ensures in
+    (omega (arith, f.0, f.1), omega (arith, f.0, f.1))
+
+pub returns : goal.returns
+returns c = mending_told _ _ c.mend_by_search-searched.ensures _ c.mend_number.ensures

@@ -1,0 +1,46 @@
+-- A number, the kind, the response, the end of the line.
+use native.Mathlib.Omega.{arith}
+use Rattle.text.specs.TextLaws.{hexes_length}
+use Rattle.listing.proofs.LineLaws.{line_is, line_put}
+use Rattle.listing.proofs.lines.put_line.Goals as goal
+
+pub put_decimal-second-requires : goal.put_decimal-second-requires
+put_decimal-second-requires c = let l = line_is c.args.number c.args.kind c.args.response.now in omega arith
+
+pub put_hex-third-requires : goal.put_hex-third-requires
+put_hex-third-requires c =
+    let put-decimal = c.put_decimal-second in
+    let l = line_is c.args.number c.args.kind c.args.response.now in
+    let d = put-decimal.ensures.past in
+    omega arith
+
+pub put_hexes-last-requires : goal.put_hexes-last-requires
+put_hexes-last-requires c =
+    let put-decimal = c.put_decimal-second in
+    let put-hex = c.put_hex-third in
+    let l = line_is c.args.number c.args.kind c.args.response.now in
+    let d = put-decimal.ensures.past in
+    let h = put-hex.ensures.past in
+    omega arith
+
+pub put-requires : goal.put-requires
+put-requires c =
+    let put-decimal = c.put_decimal-second in
+    let put-hex = c.put_hex-third in
+    let put-hexes = c.put_hexes-last in
+    let l = line_is c.args.number c.args.kind c.args.response.now in
+    let d = put-decimal.ensures.past in
+    let h = put-hex.ensures.past in
+    let x = put-hexes.ensures.past in
+    let y = hexes_length c.args.response.now in
+    omega arith
+
+pub returns : goal.returns
+returns c =
+    let start =
+    c in
+    let put-decimal = c.put_decimal-second in
+    let put-hex = c.put_hex-third in
+    let put-hexes = c.put_hexes-last in
+    line_put _ start.args.kind start.args.response.now _ _ _ _ _ _ _ _ _ _
+    put-decimal.ensures put-hex.ensures put-hexes.ensures c.put.ensures

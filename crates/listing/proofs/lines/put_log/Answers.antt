@@ -1,0 +1,42 @@
+-- The entries' lines, and those of the card.
+use borrow.Author.Rules.{rules}
+use native.Mathlib.Omega.{arith}
+use Rattle.listing.proofs.LineLaws.{log_trailed, entries_ready, entries_room, card_within, card_long, log_put}
+use Rattle.listing.proofs.lines.put_log.Goals as goal
+
+pub overflow_sub-length : goal.overflow_sub-length
+overflow_sub-length c = let t = (log_trailed _ c.requires).long in omega arith
+
+pub get4-start-requires : goal.get4-start-requires
+get4-start-requires c = let t = (log_trailed _ c.requires).long in search rules
+
+pub overflow_sub-length-2 : goal.overflow_sub-length-2
+overflow_sub-length-2 c = let t = (log_trailed _ c.requires).long in omega arith
+
+pub get2-requires : goal.get2-requires
+get2-requires c = let t = (log_trailed _ c.requires).long in search rules
+
+pub put_entries-next-requires : goal.put_entries-next-requires
+put_entries-next-requires c = entries_ready _ c.requires _ _ c.get2.ensures.0 c.get4-start.ensures.0
+
+pub slice_bounds-put_card-end : goal.slice_bounds-put_card-end
+slice_bounds-put_card-end c =
+    let get4 = c.get4-start in
+    let get2 = c.get2 in
+    card_within _ c.requires _ _ get2.ensures.0 get4.ensures.0
+
+pub put_card-requires : goal.put_card-requires
+put_card-requires c =
+    let get4 = c.get4-start in
+    let get2 = c.get2 in
+    let put_entries = c.put_entries-next in (
+      card_long _ c.requires _ _ get2.ensures.0 get4.ensures.0,
+      entries_room _ c.requires _ _ get2.ensures.0 get4.ensures.0 _ _ _ put_entries.ensures,
+    )
+
+pub returns : goal.returns
+returns c =
+    let get4 = c.get4-start in
+    let get2 = c.get2 in
+    let put_entries = c.put_entries-next in
+    log_put _ c.requires _ _ get2.ensures.0 get4.ensures.0 _ _ _ _ _ put_entries.ensures c.put_card.ensures

@@ -1,0 +1,77 @@
+use mathlib.Core.Logic.{⊎_elim}
+use mathlib.Core.Path.{sym, ap, ◌∙◌}
+use Prim.Native.Nat.{◌-◌}
+use native.Mathlib.Omega.{arith}
+use Rattle.record.specs.DecodedRecord.{measured_of}
+use Rattle.mender.proofs.PartLaws.{next_refused, next_whole}
+use Rattle.mender.proofs.SearchLaws.{reading_start, reading_full, reading_refused, reading_last, reading_next}
+use Rattle.mender.proofs.SearchLaws.{trying_start, trying_none, trying_next, trying_found}
+use Rattle.mender.proofs.search.smallest_start.Goals as goal
+
+-- the record that is read, where there is one
+abbrev entry : tie.After-known-told invariant-loop decreases-loop invariant-starts decreases-starts → tie.Start invariant-loop decreases-loop invariant-starts decreases-starts
+entry c = c.before.before.before.before.before.before.before.before.before.before.before
+
+pub starts-init : goal.starts-init
+starts-init c = trying_start _
+
+pub loop-count-init : goal.loop-count-init
+loop-count-init c = reading_start _ _ (omega (arith, c.starts-test.true, c.records_end-end.ensures))
+
+pub slice_bounds-measure-count : goal.slice_bounds-measure-count
+slice_bounds-measure-count c = let w = c.loop-count.invariant.within in omega (arith, w, c.records_end-end.ensures)
+
+pub slice_bounds-measure-start : goal.slice_bounds-measure-start
+slice_bounds-measure-start c = let w = c.loop-count.invariant.within in omega (arith, w, c.records_end-end.ensures)
+
+pub slice_bounds-measure-end : goal.slice_bounds-measure-end
+slice_bounds-measure-end c = omega (arith, c.records_end-end.ensures)
+
+pub overflow_add-at : goal.overflow_add-at
+overflow_add-at c =
+    let the-loop = c.loop-count in
+    let records-end = c.records_end-end in
+    let k =
+    next_whole (entry c).args.session.now the-loop.at _ records-end.ensures _ _
+    (sym (ap measured_of c.length-1.given.1) ∙ c.measure.ensures)
+    in
+    let w = k.within in
+    omega arith
+
+pub loop-count-preserved : goal.loop-count-preserved
+loop-count-preserved c =
+    let the-loop = c.loop-count in
+    let loop-test = c.loop-count-test in
+    let records-end = c.records_end-end in
+    let k =
+    next_whole (entry c).args.session.now the-loop.at _ records-end.ensures _ _
+    (sym (ap measured_of c.length-1.given.1) ∙ c.measure.ensures)
+    in
+    reading_next _ _ _ _ the-loop.invariant loop-test.true k.instruction _ k.next (λ e. c.if-at-end.false (e ∙ sym records-end.ensures))
+
+pub starts-preserved : goal.starts-preserved
+starts-preserved c =
+    let session = c.args.session.now in
+    let the-loop = c.loop-count in
+    let starts = c.starts in
+    let ends = c.records_end-end.ensures in
+    trying_next _ _ starts.invariant (omega (arith, c.starts-test.true, ends))
+    (⊎_elim (λ w. reading_full _ _ _ _ the-loop.invariant w.left)
+    (λ w. reading_refused _ _ _ _ the-loop.invariant w.0.taken _
+    (next_refused session the-loop.at _ ends _ (sym (ap measured_of w.4.given.1) ∙ w.2.ensures)))
+    c.loop-count-test.branch)
+
+pub returns-then-start-end : goal.returns-then-start-end
+returns-then-start-end c =
+    let session = c.args.session.now in
+    let starts = c.starts in
+    let ends = c.records_end-end.ensures in
+    ⊎_elim (λ w. absurd (let z : ⊥ = omega (arith, c.if-start-end.true, w.0.left) in z))
+    (λ out.
+    let k = next_whole session out.1.at _ ends _ _ (sym (ap measured_of out.6.given.1) ∙ out.4.ensures) in
+    trying_found _ _ starts.invariant (omega (arith, c.if-start-end.true, ends)) _ _ out.9
+    (reading_last _ _ _ _ out.1.inv out.2.taken k.instruction _ k.next (out.8.taken ∙ ends)))
+    c.starts-test.branch
+
+pub returns : goal.returns
+returns c = trying_none _ _ c.starts.invariant (omega (arith, c.if-start-end.false, c.records_end-end.ensures))

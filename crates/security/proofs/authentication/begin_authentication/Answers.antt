@@ -1,0 +1,9 @@
+-- Begun, or locked, by the test of the counter.
+use Rattle.security.proofs.AuthenticationLaws.{begin_locked, begin_spent}
+use Rattle.security.proofs.authentication.begin_authentication.Goals as goal
+
+pub returns-then-count-eq0 : goal.returns-then-count-eq0
+returns-then-count-eq0 c = begin_locked _ _ c.if-count-eq0.true
+
+pub returns : goal.returns
+returns c = begin_spent _ _ _ _ c.if-count-eq0.false c.spent-after.ensures c.authenticating.ensures

@@ -1,0 +1,10 @@
+-- The 1 bits of a byte, and that they are at most eight.
+use borrow.Author.Rules.{rules}
+use Rattle.security.proofs.CounterLaws.{ones_left, ones_small}
+use Rattle.security.proofs.counter.tries_left.Goals as goal
+
+pub overflow_cast-result : goal.overflow_cast-result
+overflow_cast-result c = record { fits = ones_small _ (search rules) }
+
+pub returns : goal.returns
+returns c = ones_left _ (search rules)

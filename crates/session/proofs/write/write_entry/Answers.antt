@@ -1,0 +1,87 @@
+-- The header of an ignored record; or a header, then the response, each in its place.
+use mathlib.Core.Path.{refl}
+use native.Mathlib.Omega.{arith}
+use Rattle.session.proofs.SessionWriteLaws.{entry_known, header_room, response_room, entry_ignored, entry_ready, entry_written}
+use borrow.Author.Rules.{rules}
+use Rattle.session.proofs.write.write_entry.Goals as goal
+
+pub is_halted-halted-requires : goal.is_halted-halted-requires
+is_halted-halted-requires c = c.requires.1.good.fit.long
+
+pub overflow_add-head : goal.overflow_add-head
+overflow_add-head c = let k = entry_known _ _ _ _ c.requires.1 _ c.requires.0 in omega arith
+
+pub put_header-end-requires : goal.put_header-end-requires
+put_header-end-requires c = header_room _ _ _ _ c.requires.1 _ c.requires.0
+
+pub returns-then-is_ignored : goal.returns-then-is_ignored
+returns-then-is_ignored c =
+    let is-halted = c.is_halted-halted in
+    let is-ignored = c.is_ignored in
+    let if1 = c.if-is_ignored in
+    entry_ignored _ _ _ _ c.requires.1 _ c.requires.0 _ _ is-halted.ensures is-ignored.ensures if1.true _ _
+    c.put_header-end.ensures.0 c.put_header-end.ensures.1
+
+pub answer_length-response-requires : goal.answer_length-response-requires
+answer_length-response-requires c = entry_known _ _ _ _ c.requires.1 _ c.requires.0
+
+pub put_header-from-requires : goal.put_header-from-requires
+put_header-from-requires c = header_room _ _ _ _ c.requires.1 _ c.requires.0
+
+pub record_length-end-requires : goal.record_length-end-requires
+record_length-end-requires c = entry_known _ _ _ _ c.requires.1 _ c.requires.0
+
+pub slice_bounds-carry_out-count : goal.slice_bounds-carry_out-count
+slice_bounds-carry_out-count c =
+    let answer_length_lem = c.answer_length-response in
+    let put-header2 = c.put_header-from in
+    let w = response_room _ _ _ _ c.requires.1 _ c.requires.0 _ _ answer_length_lem.ensures put-header2.ensures.1 in search rules
+
+pub slice_bounds-carry_out-start : goal.slice_bounds-carry_out-start
+slice_bounds-carry_out-start c =
+    let answer_length_lem = c.answer_length-response in
+    let put-header2 = c.put_header-from in
+    let w = response_room _ _ _ _ c.requires.1 _ c.requires.0 _ _ answer_length_lem.ensures put-header2.ensures.1 in search rules
+
+pub slice_bounds-carry_out-end : goal.slice_bounds-carry_out-end
+slice_bounds-carry_out-end c =
+    let answer_length_lem = c.answer_length-response in
+    let put-header2 = c.put_header-from in
+    let w = response_room _ _ _ _ c.requires.1 _ c.requires.0 _ _ answer_length_lem.ensures put-header2.ensures.1 in search rules
+
+pub carry_out-done-requires : goal.carry_out-done-requires
+carry_out-done-requires c =
+    let is-halted = c.is_halted-halted in
+    let is-ignored = c.is_ignored in
+    let if1 = c.if-is_ignored in
+    let answer_length_lem = c.answer_length-response in
+    let put-header2 = c.put_header-from in
+    let k = entry_known _ _ _ _ c.requires.1 _ c.requires.0 in (
+      k.0,
+      k.1,
+      entry_ready _ _ _ _ c.requires.1 _ c.requires.0 _ _ is-halted.ensures is-ignored.ensures if1.false _ _ _ _
+          answer_length_lem.ensures put-header2.ensures.0 put-header2.ensures.1 c.record_length-end.ensures _ _ refl refl,
+    )
+
+pub overflow_add-result : goal.overflow_add-result
+overflow_add-result c =
+    let w = response_room _ _ _ _
+    c.requires.1 _
+    c.requires.0 _ _
+    c.answer_length-response.ensures
+    c.put_header-from.ensures.1 in
+    let l = c.put_header-from.auto.0 in
+    let b = c.well-formed.1.1.1.1.0.0 in
+    omega arith
+
+pub returns : goal.returns
+returns c =
+    let is-halted = c.is_halted-halted in
+    let is-ignored = c.is_ignored in
+    let if1 = c.if-is_ignored in
+    let answer_length_lem = c.answer_length-response in
+    let put-header2 = c.put_header-from in
+    let record-length = c.record_length-end in
+    let carry-out = c.carry_out-done in
+    entry_written _ _ _ _ c.requires.1 _ c.requires.0 _ _ is-halted.ensures is-ignored.ensures if1.false _ _ _ _ answer_length_lem.ensures
+    put-header2.ensures.0 put-header2.ensures.1 record-length.ensures _ _ refl refl _ _ _ _ carry-out.ensures

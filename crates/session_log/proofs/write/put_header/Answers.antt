@@ -1,0 +1,44 @@
+-- The kind, the length behind it, and the zone where it is named.
+use Prim.Native.Nat.{◌+◌}
+use mathlib.Core.Path.{sym, ap, ◌∙◌}
+use native.Mathlib.Omega.{arith}
+use lib.ListN.{length-set}
+use Rattle.laws.specs.EntryLaws.{header_four, header_three}
+use Rattle.model.specs.Log.{zoned}
+use Rattle.session_log.proofs.LogWriteLaws.{header_long, header_put, zone_put}
+use Rattle.session_log.proofs.write.put_header.Goals as goal
+
+pub put2-requires : goal.put2-requires
+put2-requires c = simp length-set (omega arith)
+
+pub bounds-log-at-then-names_zone : goal.bounds-log-at-then-names_zone
+bounds-log-at-then-names_zone c =
+    let put2 = c.put2 in
+    let l = header_long c.args.log.now _ c.args.at c.args.kind c.args.response c.args.zone put2.ensures in
+    omega arith
+
+pub shape_of-log-then-names_zone : goal.shape_of-log-then-names_zone
+shape_of-log-then-names_zone c =
+    let put2 = c.put2 in
+    simp length-set (header_long c.args.log.now _ c.args.at c.args.kind c.args.response c.args.zone put2.ensures)
+
+pub returns-then-names_zone : goal.returns-then-names_zone
+returns-then-names_zone c =
+    let put2 = c.put2 in
+    let named = sym c.names_zone.ensures ∙ c.if-names_zone.true in (
+      zone_put c.args.log.now _ c.args.at c.args.kind c.args.response c.args.zone put2.ensures named,
+      ap (λ n. c.args.at + n) (header_four zoned _ _ c.names_zone.ensures c.if-names_zone.true),
+    )
+
+pub shape_of-log : goal.shape_of-log
+shape_of-log c =
+    let put2 = c.put2 in
+    header_long c.args.log.now _ c.args.at c.args.kind c.args.response c.args.zone put2.ensures
+
+pub returns : goal.returns
+returns c =
+    let put2 = c.put2 in
+    let named = sym c.names_zone.ensures ∙ c.if-names_zone.false in (
+      header_put c.args.log.now _ c.args.at c.args.kind c.args.response c.args.zone put2.ensures named,
+      ap (λ n. c.args.at + n) (header_three zoned _ _ c.names_zone.ensures c.if-names_zone.false),
+    )

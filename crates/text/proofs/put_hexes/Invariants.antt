@@ -1,0 +1,12 @@
+-- The front of the bytes is put.
+use Prim.Native.Nat.{◌-◌}
+use lib.ListN.{length}
+use Rattle.text.specs.Text.{hexes}
+use Rattle.text.proofs.PutLaws.{Putting}
+use Rattle.text.proofs.put_hexes.Given as goal
+
+abbrev pub invariant-loop-i : goal.invariant-loop-i
+invariant-loop-i l = Putting hexes l.initial.text l.at l.bytes l.i l.to l.text
+
+abbrev pub decreases-loop-i : goal.decreases-loop-i
+decreases-loop-i l = length l.bytes - l.i

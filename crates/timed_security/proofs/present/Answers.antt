@@ -1,0 +1,11 @@
+use Rattle.model.specs.Apply as any
+use Rattle.timed_security.specs.IssuedCommandLaws.{with_tries, counter_left}
+use Rattle.timed_security.proofs.present.Goals as goal
+
+pub returns : goal.returns
+unfolding any.apply
+returns c =
+    let counter_at = c.counter_at in
+    let verify-password = c.verify_password in
+    with_tries _ _ _ _ _ _ _ _ _ c.left.ensures.0 c.left.ensures.1 (counter_left c.args.card.now _ _ counter_at.ensures)
+    verify-password.ensures.0 verify-password.ensures.1
