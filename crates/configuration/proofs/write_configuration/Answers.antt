@@ -5,7 +5,4 @@ use Rattle.configuration.proofs.write_configuration.Goals as goal
 
 pub returns : goal.returns
 returns c =
-    let column = c.column-codes in
-    let store-allowed = c.store_allowed in
-    let pre = c.requires in
-    write_configuration_lem _ _ _ _ _ _ _ _ column.ensures refl refl pre.1 pre.0 store-allowed.ensures
+    write_configuration_lem _ _ _ _ _ _ _ _ c.column-codes.ensures refl refl c.requires.1 c.requires.0 c.store_allowed.ensures

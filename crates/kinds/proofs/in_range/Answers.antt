@@ -6,13 +6,5 @@ use Rattle.kinds.proofs.DigitLaws.{range_digit}
 use borrow.Author.Rules.{rules}
 use Rattle.kinds.proofs.in_range.Goals as goal
 
-pub overflow_add-above : goal.overflow_add-above
-overflow_add-above c =
-    let digit = c.digit in
-    let s : c.args.a < 256 = search rules in
-    let p = div-le_self c.args.a (2 ^ digit.result) in
-    let q = div-le_self ((c.args.n + 255) % 256) (2 ^ c.digit-2.result) in
-    omega arith
-
 pub returns : goal.returns
 returns c = let h = range_digit c.args.a c.args.n (search rules) (search rules) c.args.kind (search rules) in cc

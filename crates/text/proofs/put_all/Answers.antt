@@ -6,26 +6,8 @@ use native.Mathlib.Omega.{arith}
 use Rattle.text.proofs.PutLaws.{putting_start, putting_next, all_place, putting_done, put_length}
 use Rattle.text.proofs.put_all.Goals as goal
 
-pub loop-i-init : goal.loop-i-init
-loop-i-init c = putting_start _ _ _ (λ xs. xs) refl
-
-pub put-to-requires : goal.put-to-requires
-put-to-requires c =
-    let the-loop = c.loop-i in
-    let loop-test = c.loop-i-test in
-    let q = c.requires in
-    let p = all_place _ _ _ _ _ _ the-loop.invariant in
-    let t = loop-test.true in
-    omega arith
-
 pub loop-i-preserved : goal.loop-i-preserved
 loop-i-preserved c =
     let the-loop = c.loop-i in
     let loop-test = c.loop-i-test in
     putting_next _ _ _ _ _ _ (λ xs. xs) (λ x. x ∷ []) (λ xs x. refl) _ _ the-loop.invariant loop-test.true c.put-to.ensures
-
-pub shape_of-text : goal.shape_of-text
-shape_of-text c = put_length _ _ _ _ _ c.loop-i.invariant.front
-
-pub returns : goal.returns
-returns c = putting_done _ _ _ _ _ _ (λ xs. xs) c.loop-i.invariant (search rules)

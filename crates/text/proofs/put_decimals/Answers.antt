@@ -8,19 +8,6 @@ use Rattle.text.specs.TextLaws.{decimals_last}
 use Rattle.text.proofs.PutLaws.{putting_start, putting_next, putting_done, put_length, put_number, number_fits, number_place}
 use Rattle.text.proofs.put_decimals.Goals as goal
 
-pub loop-i-init : goal.loop-i-init
-loop-i-init c = (putting_start _ _ _ decimals refl, omega arith)
-
-pub overflow_cast-number : goal.overflow_cast-number
-overflow_cast-number c = let h = (c.shared_slice_known-in-loop-i-1.given c.loop-i.i).fits in search rules
-
-pub put-digits-requires : goal.put-digits-requires
-put-digits-requires c =
-    let q = c.requires in
-    let p = c.loop-i.invariant.1 in
-    let t = c.loop-i-test.true in
-    omega arith
-
 pub put_decimal-to-requires : goal.put_decimal-to-requires
 put_decimal-to-requires c =
     let put = c.put-digits in
@@ -46,9 +33,3 @@ loop-i-preserved c =
           (put_number _ _ _ _ _ put.ensures byte _ _ c.put_decimal-to.ensures),
       omega arith,
     )
-
-pub shape_of-text : goal.shape_of-text
-shape_of-text c = put_length _ _ _ _ _ c.loop-i.invariant.0.front
-
-pub returns : goal.returns
-returns c = putting_done _ _ _ _ _ _ decimals c.loop-i.invariant.0 (search rules)

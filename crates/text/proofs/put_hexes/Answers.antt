@@ -8,9 +8,6 @@ use Rattle.text.specs.TextLaws.{hexes_append}
 use Rattle.text.proofs.PutLaws.{putting_start, putting_next, hexing_place, putting_done, put_length}
 use Rattle.text.proofs.put_hexes.Goals as goal
 
-pub loop-i-init : goal.loop-i-init
-loop-i-init c = putting_start _ _ _ hexes refl
-
 pub put_hex-to-requires : goal.put_hex-to-requires
 put_hex-to-requires c =
     let the-loop = c.loop-i in
@@ -25,9 +22,3 @@ loop-i-preserved c =
     let the-loop = c.loop-i in
     let loop-test = c.loop-i-test in
     putting_next _ _ _ _ _ _ hexes hex (λ xs x. hexes_append xs (x ∷ [])) _ _ the-loop.invariant loop-test.true c.put_hex-to.ensures
-
-pub shape_of-text : goal.shape_of-text
-shape_of-text c = put_length _ _ _ _ _ c.loop-i.invariant.front
-
-pub returns : goal.returns
-returns c = putting_done _ _ _ _ _ _ hexes c.loop-i.invariant (search rules)

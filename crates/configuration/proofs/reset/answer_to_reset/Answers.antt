@@ -3,6 +3,7 @@ use Rattle.configuration.proofs.ResetLaws.{reset_answer, reset_state}
 use Rattle.configuration.proofs.reset.answer_to_reset.Goals as goal
 
 pub returns : goal.returns
-returns c =
-    let reverse = c.reverse in
-    (search reset_state, rw reset_answer reverse.ensures)
+returns c = record {
+  state = search reset_state;
+  answer = rw reset_answer c.reverse.ensures;
+}

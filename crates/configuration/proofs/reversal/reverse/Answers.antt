@@ -11,23 +11,11 @@ use Rattle.configuration.proofs.reversal.reverse.Goals as goal
 pub loop-i-init : goal.loop-i-init
 loop-i-init c = search (rules, tab_start)
 
-pub overflow_cast-byte : goal.overflow_cast-byte
-overflow_cast-byte c = let b = (c.shared_slice_known-1.given (c.args.start + c.loop-i.i)).fits in record { fits = omega arith }
-
-pub bounds-table-byte : goal.bounds-table-byte
-bounds-table-byte c = let b = (c.shared_slice_known-1.given (c.args.start + c.loop-i.i)).fits in omega arith
-
 pub loop-i-preserved : goal.loop-i-preserved
 unfolding reversals
-loop-i-preserved c =
-    let the-loop = c.loop-i in
-     (
-      search rules,
-      search rules,
-      tab_next (λ k. reversed (at c.args.from.now (c.args.start + k))) _ _ _ _ _ the-loop.invariant.2
-          c.loop-i-test.true c.requires.1 (reversal_rule _ (c.shared_slice_known-1.given (c.args.start + the-loop.i)).fits),
-    )
-
-pub returns : goal.returns
-returns c =
-    tab_done (λ k. reversed (at c.args.from.now (c.args.start + k))) _ _ _ _ c.loop-i.invariant.2 c.loop-i.invariant.0 (search rules)
+loop-i-preserved c = (
+  search rules,
+  search rules,
+  tab_next (λ k. reversed (at c.args.from.now (c.args.start + k))) _ _ _ _ _ c.loop-i.invariant.2
+      c.loop-i-test.true c.requires.1 (reversal_rule _ (c.shared_slice_known-1.given (c.args.start + c.loop-i.i)).fits),
+)

@@ -8,9 +8,4 @@ loop-i-init c = search (rules, tab_start)
 
 pub loop-i-preserved : goal.loop-i-preserved
 loop-i-preserved c =
-    let the-loop = c.loop-i in
-    let loop-test = c.loop-i-test in
-    (search rules, search rules, tab_next _ _ _ _ _ _ the-loop.invariant.2 loop-test.true c.requires.3 c.merged.ensures)
-
-pub returns : goal.returns
-returns c = tab_done _ _ _ _ _ c.loop-i.invariant.2 c.loop-i.invariant.0 (search rules)
+    (search rules, search rules, tab_next _ _ _ _ _ _ c.loop-i.invariant.2 c.loop-i-test.true c.requires.3 c.merged.ensures)

@@ -6,6 +6,5 @@ use Rattle.memory.proofs.zone.final_values.Goals as goal
 
 pub returns : goal.returns
 returns c =
-    let merges = c.merges-pgo in
     stage_values c.args.card.now (volatile_of c.args.state) c.args.address c.requires.1 c.args.bytes.now _ _ _ _
-    merges.ensures refl (search rules) c.requires.0 c.merge.ensures
+    c.merges-pgo.ensures refl (search rules) c.requires.0 c.merge.ensures

@@ -4,6 +4,5 @@ use Rattle.memory.proofs.zone.may_stage.Goals as goal
 
 pub returns : goal.returns
 returns c =
-    let start = c.requires in
     stage_right c.args.card.now (volatile_of c.args.state) 0
-    start.1 _ c.zone_writable.ensures
+    c.requires.1 _ c.zone_writable.ensures
