@@ -6,7 +6,4 @@ pub returns-then-box_refuses : goal.returns-then-box_refuses
 returns-then-box_refuses c = run_limited _ _ _ c.box_refuses.ensures c.if-box_refuses.true
 
 pub returns : goal.returns
-returns c =
-    let box-refuses = c.box_refuses in
-    let if1 = c.if-box_refuses in
-    run_unlimited _ _ _ box-refuses.ensures if1.false _ c.run.ensures
+returns c = run_unlimited _ _ _ c.box_refuses.ensures c.if-box_refuses.false _ c.run.ensures

@@ -7,21 +7,14 @@ use Rattle.exports.proofs.at88sc1608_answer.Goals as goal
 
 pub answer_number-requires : goal.answer_number-requires
 answer_number-requires c =
-    let fetch = c.fetch-fetched in
-    let h = headers_fit c.args.log.now c.args.number _ fetch.ensures _ (ap found_of c.found-1.given.1) in
+    let h = headers_fit c.args.log.now c.args.number _ c.fetch-fetched.ensures _ (ap found_of c.in-Refused.is) in
     (omega arith, omega arith, omega arith)
 
 pub answer_number-requires-in-At : goal.answer_number-requires-in-At
-answer_number-requires-in-At c =
-    let fetch = c.fetch-fetched in
-    answer_fits _ _ _ fetch.ensures _ (ap found_of c.found-in-At-1.given.1) _ _ refl
+answer_number-requires-in-At c = answer_fits _ _ _ c.fetch-fetched.ensures _ (ap found_of c.in-At.is) _ _ refl
 
 pub returns-in-Refused : goal.returns-in-Refused
-returns-in-Refused c =
-    let fetch = c.fetch-fetched in
-    answer_told _ _ _ fetch.ensures _ (ap found_of c.found-1.given.1) _ c.answer_number.ensures
+returns-in-Refused c = answer_told _ _ _ c.fetch-fetched.ensures _ (ap found_of c.in-Refused.is) _ c.answer_number.ensures
 
 pub returns-in-At : goal.returns-in-At
-returns-in-At c =
-    let fetch = c.fetch-fetched in
-    answer_told _ _ _ fetch.ensures _ (ap found_of c.found-in-At-1.given.1) _ c.answer_number-in-At.ensures
+returns-in-At c = answer_told _ _ _ c.fetch-fetched.ensures _ (ap found_of c.in-At.is) _ c.answer_number-in-At.ensures

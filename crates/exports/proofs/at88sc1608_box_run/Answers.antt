@@ -4,9 +4,7 @@ use Rattle.exports.proofs.ExportLaws.{box_log_fits, box_run_told}
 use Rattle.exports.proofs.at88sc1608_box_run.Goals as goal
 
 pub result_number-requires : goal.result_number-requires
-result_number-requires c =
-    let shared-slice-known = c.shared_slice_known-1 in
-    box_log_fits _ _ _ c.box_run-boxed.ensures (λ i. omega (arith, shared-slice-known.given i))
+result_number-requires c = box_log_fits _ _ _ c.box_run-boxed.ensures (λ i. omega (arith, c.type_inv.session i))
 
 pub returns : goal.returns
 returns c = box_run_told _ _ _ c.box_run-boxed.ensures _ c.result_number.ensures

@@ -4,22 +4,11 @@ use Rattle.exports.proofs.ExportLaws.{accepted_long, response_fits, command_told
 use Rattle.exports.proofs.at88sc1608_command.Goals as goal
 
 pub write_state-requires : goal.write_state-requires
-write_state-requires c =
-    let read-state = c.read_state-before in
-    let command = c.command-reply in
-    accepted_long _ _ _ _ _ read-state.ensures _ command.ensures
+write_state-requires c = accepted_long _ _ _ _ _ c.read_state-before.ensures _ c.command-reply.ensures
 
 pub command_number-requires : goal.command_number-requires
-command_number-requires c =
-    let shared-slice-known =
-    c.shared_slice_known-1 in
-    let read-state = c.read_state-before in
-    let command = c.command-reply in
-    response_fits _ _ _ _ _ read-state.ensures _ command.ensures (λ i. omega (arith, shared-slice-known.given i))
+command_number-requires c = response_fits _ _ _ _ _ c.read_state-before.ensures _ c.command-reply.ensures (λ i. omega (arith, c.type_inv.record i))
 
 pub returns : goal.returns
 returns c =
-    let read-state = c.read_state-before in
-    let command = c.command-reply in
-    let write-state = c.write_state in
-    command_told _ _ _ _ _ read-state.ensures _ command.ensures _ _ c.command_number.ensures write-state.ensures
+    command_told _ _ _ _ _ c.read_state-before.ensures _ c.command-reply.ensures _ _ c.command_number.ensures c.write_state.ensures

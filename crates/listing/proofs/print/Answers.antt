@@ -4,6 +4,4 @@ use Rattle.listing.specs.Whole.{printed_whole}
 use Rattle.listing.proofs.print.Goals as goal
 
 pub returns : goal.returns
-returns c =
-    let known = c.shared_slice_known-1 in
-    printed_whole _ _ _ _ _ (λ i. (known.given i).fits) (search rules) c.list.ensures
+returns c = printed_whole _ _ _ _ _ (λ i. (c.type_inv.session i).fits) (search rules) c.list.ensures

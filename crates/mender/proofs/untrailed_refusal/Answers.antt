@@ -10,20 +10,12 @@ returns-then-length-gt-GREATEST_SESSION c = too_long _ c.if-length-lt-LEAST_SESS
 
 pub returns-then-not-is_fuse_byte : goal.returns-then-not-is_fuse_byte
 returns-then-not-is_fuse_byte c =
-    let long = c.if-length-lt-LEAST_SESSION.false in
-    let short = c.if-length-gt-GREATEST_SESSION.false in
-    bad_fuses _ long _ short c.is_fuse_byte.ensures c.if-not-is_fuse_byte.true
+    bad_fuses _ c.if-length-lt-LEAST_SESSION.false _ c.if-length-gt-GREATEST_SESSION.false c.is_fuse_byte.ensures c.if-not-is_fuse_byte.true
 
 pub returns-then-not-staging_fits : goal.returns-then-not-staging_fits
 returns-then-not-staging_fits c =
-    let long = c.if-length-lt-LEAST_SESSION.false in
-    let short = c.if-length-gt-GREATEST_SESSION.false in
-    let fuses = c.is_fuse_byte.ensures in
-    bad_staging _ long _ short fuses _ c.if-not-is_fuse_byte.false c.staging_fits.ensures c.if-not-staging_fits.true
+    bad_staging _ c.if-length-lt-LEAST_SESSION.false _ c.if-length-gt-GREATEST_SESSION.false c.is_fuse_byte.ensures _ c.if-not-is_fuse_byte.false c.staging_fits.ensures c.if-not-staging_fits.true
 
 pub returns : goal.returns
 returns c =
-    let long = c.if-length-lt-LEAST_SESSION.false in
-    let short = c.if-length-gt-GREATEST_SESSION.false in
-    let fuses = c.is_fuse_byte.ensures in
-    all_well _ long _ short fuses _ c.if-not-is_fuse_byte.false c.staging_fits.ensures c.if-not-staging_fits.false
+    all_well _ c.if-length-lt-LEAST_SESSION.false _ c.if-length-gt-GREATEST_SESSION.false c.is_fuse_byte.ensures _ c.if-not-is_fuse_byte.false c.staging_fits.ensures c.if-not-staging_fits.false

@@ -6,33 +6,20 @@ use Rattle.session.proofs.RunLaws.{run_refused, no_room, log_ready, run_logged}
 use Rattle.session.proofs.run.Goals as goal
 
 pub returns-then-room-lt-LEAST_LOG : goal.returns-then-room-lt-LEAST_LOG
-returns-then-room-lt-LEAST_LOG c =
-    let check = c.check in
-    no_room _ _ _ (sym (ap checked_of c.entries-1.given.1) ∙ check.ensures) (let h = c.if-room-lt-LEAST_LOG.true in omega arith)
+returns-then-room-lt-LEAST_LOG c = no_room _ _ _ (sym (ap checked_of c.in-Entries.is) ∙ c.check.ensures) ( omega arith)
 
 pub returns-then-room-entries : goal.returns-then-room-entries
-returns-then-room-entries c =
-    let check = c.check in
-    let entries = c.entries-1 in
-    no_room _ _ _ (sym (ap checked_of entries.given.1) ∙ check.ensures) (let h = c.if-room-entries.true in let l = c.if-room-lt-LEAST_LOG.false in omega arith)
+returns-then-room-entries c = no_room _ _ _ (sym (ap checked_of c.in-Entries.is) ∙ c.check.ensures) (  omega arith)
 
 pub write_log-requires : goal.write_log-requires
 write_log-requires c =
-    let check = c.check in
-    let entries = c.entries-1 in
-    log_ready _ _ _ (sym (ap checked_of entries.given.1) ∙ check.ensures)
-    (let h = c.if-room-entries.false in let l = c.if-room-lt-LEAST_LOG.false in omega arith)
+    log_ready _ _ _ (sym (ap checked_of c.in-Entries.is) ∙ c.check.ensures)
+    (  omega arith)
 
 pub returns-in-Refused : goal.returns-in-Refused
-returns-in-Refused c =
-    let check = c.check in
-    run_refused _ _ _ (sym (ap checked_of c.why-1.given.1) ∙ check.ensures)
+returns-in-Refused c = run_refused _ _ _ (sym (ap checked_of c.in-Refused.is) ∙ c.check.ensures)
 
 pub returns-else-room-entries : goal.returns-else-room-entries
 returns-else-room-entries c =
-    let check = c.check in
-    let entries = c.entries-1 in
-    let if1 = c.if-room-lt-LEAST_LOG in
-    let if2 = c.if-room-entries in
-    run_logged _ _ _ (sym (ap checked_of entries.given.1) ∙ check.ensures) (let h = if2.false in let l = if1.false in omega arith) _ _
+    run_logged _ _ _ (sym (ap checked_of c.in-Entries.is) ∙ c.check.ensures) (let h = c.if-room-entries.false in let l = c.if-room-lt-LEAST_LOG.false in omega arith) _ _
     c.write_log.ensures

@@ -10,57 +10,29 @@ pub bounds-bytes-1 : goal.bounds-bytes-1
 bounds-bytes-1 c = let l = all_nine _ _ c.is_state.ensures c.if-not-is_state.false in omega arith
 
 pub bounds-bytes-2 : goal.bounds-bytes-2
-bounds-bytes-2 c =
-    let is_state = c.is_state in
-    let l = all_nine _ _ is_state.ensures c.if-not-is_state.false in omega arith
+bounds-bytes-2 c = let l = all_nine _ _ c.is_state.ensures c.if-not-is_state.false in omega arith
 
 pub bounds-bytes-3 : goal.bounds-bytes-3
-bounds-bytes-3 c =
-    let is_state = c.is_state in
-    let if1 = c.if-not-is_state in
-    let l = all_nine _ _ is_state.ensures if1.false in omega arith
+bounds-bytes-3 c = let l = all_nine _ _ c.is_state.ensures c.if-not-is_state.false in omega arith
 
 pub bounds-bytes-6 : goal.bounds-bytes-6
-bounds-bytes-6 c =
-    let is_state = c.is_state in
-    let if1 = c.if-not-is_state in
-    let l = all_nine _ _ is_state.ensures if1.false in omega arith
+bounds-bytes-6 c = let l = all_nine _ _ c.is_state.ensures c.if-not-is_state.false in omega arith
 
 pub bounds-bytes-7 : goal.bounds-bytes-7
-bounds-bytes-7 c =
-    let is_state = c.is_state in
-    let if1 = c.if-not-is_state in
-    let l = all_nine _ _ is_state.ensures if1.false in omega arith
+bounds-bytes-7 c = let l = all_nine _ _ c.is_state.ensures c.if-not-is_state.false in omega arith
 
 pub bounds-bytes-8 : goal.bounds-bytes-8
-bounds-bytes-8 c =
-    let is_state = c.is_state in
-    let if1 = c.if-not-is_state in
-    let l = all_nine _ _ is_state.ensures if1.false in omega arith
+bounds-bytes-8 c = let l = all_nine _ _ c.is_state.ensures c.if-not-is_state.false in omega arith
 
 pub bounds-bytes-0 : goal.bounds-bytes-0
-bounds-bytes-0 c =
-    let is_state = c.is_state in
-    let if1 = c.if-not-is_state in
-    let l = all_nine _ _ is_state.ensures if1.false in omega arith
+bounds-bytes-0 c = let l = all_nine _ _ c.is_state.ensures c.if-not-is_state.false in omega arith
 
 pub bounds-bytes-4 : goal.bounds-bytes-4
-bounds-bytes-4 c =
-    let is_state = c.is_state in
-    let if1 = c.if-not-is_state in
-    let l = all_nine _ _ is_state.ensures if1.false in omega arith
+bounds-bytes-4 c = let l = all_nine _ _ c.is_state.ensures c.if-not-is_state.false in omega arith
 
 pub bounds-bytes-5 : goal.bounds-bytes-5
-bounds-bytes-5 c =
-    let is_state = c.is_state in
-    let if1 = c.if-not-is_state in
-    let l = all_nine _ _ is_state.ensures if1.false in omega arith
+bounds-bytes-5 c = let l = all_nine _ _ c.is_state.ensures c.if-not-is_state.false in omega arith
 
 pub returns : goal.returns
 returns c =
-    let is_state = c.is_state in
-    let if1 = c.if-not-is_state in
-    let active-read = c.active_read-active in
-    let authentication-read = c.authentication_read-authentication in
-    let tear-read = c.tear_read-tear in
-    is_read _ _ is_state.ensures if1.false _ _ _ active-read.ensures authentication-read.ensures tear-read.ensures
+    is_read _ _ c.is_state.ensures c.if-not-is_state.false _ _ _ c.active_read-active.ensures c.authentication_read-authentication.ensures c.tear_read-tear.ensures

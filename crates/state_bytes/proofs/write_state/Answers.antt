@@ -7,53 +7,53 @@ use Rattle.state_bytes.proofs.StateByteLaws.{kept, rewritten}
 use Rattle.state_bytes.proofs.write_state.Goals as goal
 
 pub returns-in-Refused : goal.returns-in-Refused
-returns-in-Refused c = kept _ _ _ _ c.enum_told-1.given.1
+returns-in-Refused c = kept _ _ _ _ c.in-Refused.is
 
 pub bounds-bytes-0 : goal.bounds-bytes-0
-bounds-bytes-0 c = let l = c.requires (ap outcome_number c.enum_told-in_default-1.given.1) in omega arith
+bounds-bytes-0 c = let l = c.requires (ap outcome_number c.in_default.is) in omega arith
 
 pub bounds-bytes-1 : goal.bounds-bytes-1
 bounds-bytes-1 c =
-    let l = c.requires (ap outcome_number c.enum_told-in_default-1.given.1) in
+    let l = c.requires (ap outcome_number c.in_default.is) in
     simp length-set (omega arith)
 
 pub bounds-bytes-2 : goal.bounds-bytes-2
 bounds-bytes-2 c =
-    let l = c.requires (ap outcome_number c.enum_told-in_default-1.given.1) in
+    let l = c.requires (ap outcome_number c.in_default.is) in
     simp length-set (omega arith)
 
 pub bounds-bytes-3 : goal.bounds-bytes-3
 bounds-bytes-3 c =
-    let l = c.requires (ap outcome_number c.enum_told-in_default-1.given.1) in
+    let l = c.requires (ap outcome_number c.in_default.is) in
     simp length-set (omega arith)
 
 pub bounds-bytes-4 : goal.bounds-bytes-4
 bounds-bytes-4 c =
-    let l = c.requires (ap outcome_number c.enum_told-in_default-1.given.1) in
+    let l = c.requires (ap outcome_number c.in_default.is) in
     simp length-set (omega arith)
 
 pub bounds-bytes-5 : goal.bounds-bytes-5
 bounds-bytes-5 c =
     let l = c.requires
-    (ap outcome_number c.enum_told-in_default-1.given.1) in
+    (ap outcome_number c.in_default.is) in
     simp length-set (omega arith)
 
 pub bounds-bytes-6 : goal.bounds-bytes-6
 bounds-bytes-6 c =
     let l = c.requires
-    (ap outcome_number c.enum_told-in_default-1.given.1) in
+    (ap outcome_number c.in_default.is) in
     simp length-set (omega arith)
 
 pub bounds-bytes-7 : goal.bounds-bytes-7
 bounds-bytes-7 c =
     let l = c.requires
-    (ap outcome_number c.enum_told-in_default-1.given.1) in
+    (ap outcome_number c.in_default.is) in
     simp length-set (omega arith)
 
 pub bounds-bytes-8 : goal.bounds-bytes-8
 bounds-bytes-8 c =
     let l = c.requires
-    (ap outcome_number c.enum_told-in_default-1.given.1) in
+    (ap outcome_number c.in_default.is) in
     simp length-set (omega arith)
 
 pub shape_of-bytes : goal.shape_of-bytes
@@ -61,11 +61,6 @@ shape_of-bytes c = simp length-set refl
 
 pub returns : goal.returns
 returns c =
-    let enum-told2 = c.enum_told-in_default-1 in
-    let active-flag = c.active_flag in
-    let active-selector = c.active_selector in
-    let authentication-byte = c.authentication_byte in
-    let off_byte = c.off_byte in
-    rewritten _ _ _ _ _ _ _ _ _ _ enum-told2.given.1 (c.requires (ap outcome_number enum-told2.given.1)) active-flag.ensures
-    active-selector.ensures authentication-byte.ensures off_byte.ensures c.tear_flag.ensures c.tear_cells.ensures
+    rewritten _ _ _ _ _ _ _ _ _ _ c.in_default.is (c.requires (ap outcome_number c.in_default.is)) c.active_flag.ensures
+    c.active_selector.ensures c.authentication_byte.ensures c.off_byte.ensures c.tear_flag.ensures c.tear_cells.ensures
     c.tear_junk.ensures

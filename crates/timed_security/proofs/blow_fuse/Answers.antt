@@ -7,8 +7,5 @@ use Rattle.timed_security.proofs.blow_fuse.Goals as goal
 pub returns : goal.returns
 unfolding any.apply
 returns c =
-    let is-active = c.is_active in
-    let both = c.both-busy in
-    let write-fuses = c.write_fuses in
     without_tries _ _ _ _ _ _ _ _ _ c.settled.ensures.0 c.settled.ensures.1
-    (fuse_left c.args.card.now (volatile_of c.args.state.volatile) _ _ is-active.ensures both.ensures) refl write-fuses.ensures refl
+    (fuse_left c.args.card.now (volatile_of c.args.state.volatile) _ _ c.is_active.ensures c.both-busy.ensures) refl c.write_fuses.ensures refl

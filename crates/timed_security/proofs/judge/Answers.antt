@@ -5,7 +5,5 @@ use Rattle.timed_security.proofs.judge.Goals as goal
 pub returns : goal.returns
 unfolding any.apply
 returns c =
-    let is-begun = c.is_begun-busy in
-    let verify-authentication = c.verify_authentication in
-    with_tries _ _ _ _ _ _ _ _ _ c.left.ensures.0 c.left.ensures.1 is-begun.ensures verify-authentication.ensures.0
-    verify-authentication.ensures.1
+    with_tries _ _ _ _ _ _ _ _ _ c.left.ensures.0 c.left.ensures.1 c.is_begun-busy.ensures c.verify_authentication.ensures.0
+    c.verify_authentication.ensures.1

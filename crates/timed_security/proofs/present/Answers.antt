@@ -5,7 +5,5 @@ use Rattle.timed_security.proofs.present.Goals as goal
 pub returns : goal.returns
 unfolding any.apply
 returns c =
-    let counter_at = c.counter_at in
-    let verify-password = c.verify_password in
-    with_tries _ _ _ _ _ _ _ _ _ c.left.ensures.0 c.left.ensures.1 (counter_left c.args.card.now _ _ counter_at.ensures)
-    verify-password.ensures.0 verify-password.ensures.1
+    with_tries _ _ _ _ _ _ _ _ _ c.left.ensures.0 c.left.ensures.1 (counter_left c.args.card.now _ _ c.counter_at.ensures)
+    c.verify_password.ensures.0 c.verify_password.ensures.1

@@ -7,17 +7,11 @@ use Rattle.trailer.proofs.put.Goals as goal
 
 pub bounds-space-at-2 : goal.bounds-space-at-2
 bounds-space-at-2 c =
-    let put4 = c.put4 in
-    let put2 = c.put2 in
-    let g = put2.auto.0 ∙ put4.auto.0 in
+    let g = c.put2.auto.0 ∙ c.put4.auto.0 in
     simp length-set (omega arith)
 
 pub shape_of-space : goal.shape_of-space
-shape_of-space c =
-    let put4 = c.put4 in
-    simp length-set (c.put2.auto.0 ∙ put4.auto.0)
+shape_of-space c = simp length-set (c.put2.auto.0 ∙ c.put4.auto.0)
 
 pub returns : goal.returns
-returns c =
-    let put4 = c.put4 in
-    trailer_put c.args.space.now _ _ c.args.at c.args.place c.args.count _ _ put4.ensures c.put2.ensures
+returns c = trailer_put c.args.space.now _ _ c.args.at c.args.place c.args.count _ _ c.put4.ensures c.put2.ensures

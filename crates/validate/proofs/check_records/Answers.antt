@@ -14,20 +14,14 @@ loop-left-init c = checking_start _ _ _
 
 pub returns-in-Refused : goal.returns-in-Refused
 returns-in-Refused c =
-    let the-loop = c.loop-left in
-    let loop-test = c.loop-left-test in
-    let measure-at = c.measure_at in
-    checking_refused _ _ _ _ _ _ the-loop.invariant loop-test.true _
-    (refused_of _ _ (sym (ap measured_of c.why-1.given.1) ∙ measure-at.ensures))
+    checking_refused _ _ _ _ _ _ c.loop-left.invariant c.loop-left-test.true _
+    (refused_of _ _ (sym (ap measured_of c.in-Refused.is) ∙ c.measure_at.ensures))
 
 pub bounds-session-at : goal.bounds-session-at
 bounds-session-at c =
-    let the-loop = c.loop-left in
-    let loop-test = c.loop-left-test in
-    let measure-at = c.measure_at in
-    let said = sym (ap measured_of c.answer-1.given.1) ∙ measure-at.ensures in
-    let k = whole_of _ _ (next_of c.args.session.now the-loop.at) said in
-    kind_within _ _ _ _ _ _ the-loop.invariant loop-test.true k.0 _ k.1
+    let said = sym (ap measured_of c.in-Whole.is) ∙ c.measure_at.ensures in
+    let k = whole_of _ _ (next_of c.args.session.now c.loop-left.at) said in
+    kind_within _ _ _ _ _ _ c.loop-left.invariant c.loop-left-test.true k.0 _ k.1
 
 pub overflow_add-entries : goal.overflow_add-entries
 overflow_add-entries c = let h = header_short _ _ _ c.header_length.ensures in search rules
@@ -37,28 +31,17 @@ overflow_add-entries-in-Whole c = let h = header_short _ _ _ c.header_length.ens
 
 pub overflow_add-at : goal.overflow_add-at
 overflow_add-at c =
-    let the-loop = c.loop-left in
-    let measure-at = c.measure_at in
-    let answer = c.answer-1 in
-    let k = whole_of _ _ (next_of c.args.session.now the-loop.at) (sym (ap measured_of answer.given.1) ∙ measure-at.ensures) in
-    let w = next_within c.args.session.now the-loop.at k.0 answer.given.0.1.0 k.1 in
+    let k = whole_of _ _ (next_of c.args.session.now c.loop-left.at) (sym (ap measured_of c.in-Whole.is) ∙ c.measure_at.ensures) in
+    let w = next_within c.args.session.now c.loop-left.at k.0 c.in-Whole.length k.1 in
     omega arith
 
 pub loop-left-preserved : goal.loop-left-preserved
 loop-left-preserved c =
-    let the-loop = c.loop-left in
-    let loop-test = c.loop-left-test in
-    let measure-at = c.measure_at in
-    let answer = c.answer-1 in
-    let k = whole_of _ _ (next_of c.args.session.now the-loop.at) (sym (ap measured_of answer.given.1) ∙ measure-at.ensures) in
-    checking_next _ _ _ _ _ _ the-loop.invariant loop-test.true k.0 _ _ _ (sym k.1) c.header_length.ensures k.2 (search rules)
+    let k = whole_of _ _ (next_of c.args.session.now c.loop-left.at) (sym (ap measured_of c.in-Whole.is) ∙ c.measure_at.ensures) in
+    checking_next _ _ _ _ _ _ c.loop-left.invariant c.loop-left-test.true k.0 _ _ _ (sym k.1) c.header_length.ensures k.2 (search rules)
 
 pub returns-then-at-records_end : goal.returns-then-at-records_end
-returns-then-at-records_end c =
-    let the-loop = c.loop-left in
-    checking_left _ _ _ _ _ _ the-loop.invariant (search rules) _ c.records_end.ensures c.if-at-records_end.true
+returns-then-at-records_end c = checking_left _ _ _ _ _ _ c.loop-left.invariant (search rules) _ c.records_end.ensures c.if-at-records_end.true
 
 pub returns : goal.returns
-returns c =
-    let the-loop = c.loop-left in
-    checking_done _ _ _ _ _ _ the-loop.invariant (search rules) _ c.records_end.ensures c.if-at-records_end.false
+returns c = checking_done _ _ _ _ _ _ c.loop-left.invariant (search rules) _ c.records_end.ensures c.if-at-records_end.false

@@ -13,34 +13,25 @@ pub slice_bounds-measure-count : goal.slice_bounds-measure-count
 slice_bounds-measure-count c = c.loop-left.invariant.within
 
 pub slice_bounds-measure-start : goal.slice_bounds-measure-start
-slice_bounds-measure-start c = let w = c.loop-left.invariant.within in search rules
+slice_bounds-measure-start c = search rules
 
 pub slice_bounds-measure-end : goal.slice_bounds-measure-end
-slice_bounds-measure-end c = let w = c.loop-left.invariant.within in search rules
+slice_bounds-measure-end c = search rules
 
 pub returns-in-Refused : goal.returns-in-Refused
 returns-in-Refused c =
-    let the-loop = c.loop-left in
-    let loop-test = c.loop-left-test in
-    let measure = c.measure in
-    listed_refused _ _ _ _ the-loop.invariant loop-test.true _ (refused_of _ _ (sym (ap measured_of c.why-1.given.1) ∙ measure.ensures))
+    listed_refused _ _ _ _ c.loop-left.invariant c.loop-left-test.true _ (refused_of _ _ (sym (ap measured_of c.in-Refused.is) ∙ c.measure.ensures))
 
 pub overflow_add-at : goal.overflow_add-at
 overflow_add-at c =
-    let the-loop = c.loop-left in
-    let loop-test = c.loop-left-test in
-    let measure = c.measure in
-    let k = whole_of _ _ _ (sym (ap measured_of c.length-1.given.1) ∙ measure.ensures) in
-    let w = listed_within _ _ _ _ the-loop.invariant loop-test.true k.0 _ k.1 in
+    let k = whole_of _ _ _ (sym (ap measured_of c.in-Whole.is) ∙ c.measure.ensures) in
+    let w = listed_within _ _ _ _ c.loop-left.invariant c.loop-left-test.true k.0 _ k.1 in
     omega arith
 
 pub loop-left-preserved : goal.loop-left-preserved
 loop-left-preserved c =
-    let the-loop = c.loop-left in
-    let loop-test = c.loop-left-test in
-    let measure = c.measure in
-    let k = whole_of _ _ _ (sym (ap measured_of c.length-1.given.1) ∙ measure.ensures) in
-    listed_next _ _ _ _ the-loop.invariant loop-test.true k.0 _ k.1
+    let k = whole_of _ _ _ (sym (ap measured_of c.in-Whole.is) ∙ c.measure.ensures) in
+    listed_next _ _ _ _ c.loop-left.invariant c.loop-left-test.true k.0 _ k.1
 
 pub returns-then-at-records : goal.returns-then-at-records
 returns-then-at-records c = listed_left _ _ _ _ c.loop-left.invariant (search rules) c.if-at-records.true

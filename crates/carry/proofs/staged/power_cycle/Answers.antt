@@ -31,25 +31,18 @@ returns-then-card c =
     c.powered_up.ensures
 
 pub overflow_cast-count : goal.overflow_cast-count
-overflow_cast-count c =
-    let if1 = c.if-card in
-    let l = ready_length c.args.card.now (state_of c.args.state) c.requires.1 c.requires.0 if1.false in search rules
+overflow_cast-count c = let l = ready_length c.args.card.now (state_of c.args.state) c.requires.1 c.requires.0 c.if-card.false in search rules
 
 pub copy-requires : goal.copy-requires
-copy-requires c =
-    let if1 = c.if-card in
-    let l = ready_length c.args.card.now (state_of c.args.state) c.requires.1 c.requires.0 if1.false in search rules
+copy-requires c = let l = ready_length c.args.card.now (state_of c.args.state) c.requires.1 c.requires.0 c.if-card.false in search rules
 
 pub slice_bounds-finish-end : goal.slice_bounds-finish-end
-slice_bounds-finish-end c =
-    let if1 = c.if-card in
-    let l = ready_length c.args.card.now (state_of c.args.state) c.requires.1 c.requires.0 if1.false in search rules
+slice_bounds-finish-end c = let l = ready_length c.args.card.now (state_of c.args.state) c.requires.1 c.requires.0 c.if-card.false in search rules
 
 pub finish-left-requires : goal.finish-left-requires
 finish-left-requires c =
-    let if1 = c.if-card in
-    let z = ready_zone c.args.card.now (state_of c.args.state) c.requires.1 c.requires.0 if1.false in
-    let l = ready_length c.args.card.now (state_of c.args.state) c.requires.1 c.requires.0 if1.false in
+    let z = ready_zone c.args.card.now (state_of c.args.state) c.requires.1 c.requires.0 c.if-card.false in
+    let l = ready_length c.args.card.now (state_of c.args.state) c.requires.1 c.requires.0 c.if-card.false in
     search rules
 
 pub returns-then-left-eq0 : goal.returns-then-left-eq0

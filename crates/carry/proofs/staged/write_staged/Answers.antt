@@ -30,9 +30,8 @@ stages c =
 
 pub returns-then-not-may_stage : goal.returns-then-not-may_stage
 returns-then-not-may_stage c =
-    let timed = c.timed-writing in
     stage_forbidden c.args.card.now (state_of c.args.state) c.args.address c.args.bytes.now _ _ _ _
-    (c.may_stage.ensures c.args.address) c.if-not-may_stage.true c.quiet.ensures.0 c.quiet.ensures.1 timed.ensures
+    (c.may_stage.ensures c.args.address) c.if-not-may_stage.true c.quiet.ensures.0 c.quiet.ensures.1 c.timed-writing.ensures
 
 pub returns-then-left-eq0 : goal.returns-then-left-eq0
 returns-then-left-eq0 c =
@@ -41,6 +40,5 @@ returns-then-left-eq0 c =
 
 pub returns : goal.returns
 returns c =
-    let timed = c.timed-writing in
     stages c false (ne_eqb _ _ c.if-left-eq0.false) _ _
-    (c.quiet-2.ensures.0 ∙ c.arming.ensures ∙ (λ j. rearmed (timed.ensures j) untorn)) c.quiet-2.ensures.1
+    (c.quiet-2.ensures.0 ∙ c.arming.ensures ∙ (λ j. rearmed (c.timed-writing.ensures j) untorn)) c.quiet-2.ensures.1

@@ -2,4 +2,4 @@
 use Rattle.command.proofs.admit.selector_in_range.Goals as goal
 
 pub returns-in-Selector : goal.returns-in-Selector
-returns-in-Selector c = rw c.active-1.given.1
+returns-in-Selector c = rw c.in-Selector.is

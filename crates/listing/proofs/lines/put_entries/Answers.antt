@@ -11,61 +11,39 @@ pub bounds-log-at : goal.bounds-log-at
 bounds-log-at c = let h = header_within _ _ _ _ _ _ _ _ c.loop-i.invariant c.loop-i-test.true in search rules
 
 pub overflow_add-from : goal.overflow_add-from
-overflow_add-from c =
-    let the-loop = c.loop-i in
-    let h = response_begins _ _ _ _ _ _ _ _ the-loop.invariant c.loop-i-test.true _ c.header_length.ensures in search rules
+overflow_add-from c = let h = response_begins _ _ _ _ _ _ _ _ c.loop-i.invariant c.loop-i-test.true _ c.header_length.ensures in search rules
 
 pub overflow_add-at : goal.overflow_add-at
-overflow_add-at c =
-    let the-loop = c.loop-i in
-    let h = header_within _ _ _ _ _ _ _ _ the-loop.invariant c.loop-i-test.true in search rules
+overflow_add-at c = let h = header_within _ _ _ _ _ _ _ _ c.loop-i.invariant c.loop-i-test.true in search rules
 
 pub get2-requires : goal.get2-requires
-get2-requires c =
-    let the-loop = c.loop-i in
-    let h = header_within _ _ _ _ _ _ _ _ the-loop.invariant c.loop-i-test.true in search rules
+get2-requires c = let h = header_within _ _ _ _ _ _ _ _ c.loop-i.invariant c.loop-i-test.true in search rules
 
 pub overflow_add-next : goal.overflow_add-next
 overflow_add-next c =
-    let the-loop = c.loop-i in
-    let loop-test = c.loop-i-test in
-    let h = entry_ends _ _ _ _ _ _ _ _ the-loop.invariant loop-test.true _ _ c.header_length.ensures c.get2.ensures.0 in search rules
+    let h = entry_ends _ _ _ _ _ _ _ _ c.loop-i.invariant c.loop-i-test.true _ _ c.header_length.ensures c.get2.ensures.0 in search rules
 
 pub slice_bounds-put_line-count : goal.slice_bounds-put_line-count
 slice_bounds-put_line-count c =
-    let the-loop = c.loop-i in
-    let loop-test = c.loop-i-test in
-    let h = entry_ends _ _ _ _ _ _ _ _ the-loop.invariant loop-test.true _ _ c.header_length.ensures c.get2.ensures.0 in
+    let h = entry_ends _ _ _ _ _ _ _ _ c.loop-i.invariant c.loop-i-test.true _ _ c.header_length.ensures c.get2.ensures.0 in
     search rules
 
 pub slice_bounds-put_line-start : goal.slice_bounds-put_line-start
 slice_bounds-put_line-start c =
-    let the-loop = c.loop-i in
-    let loop-test = c.loop-i-test in
-    let h = entry_ends _ _ _ _ _ _ _ _ the-loop.invariant loop-test.true _ _ c.header_length.ensures c.get2.ensures.0 in
+    let h = entry_ends _ _ _ _ _ _ _ _ c.loop-i.invariant c.loop-i-test.true _ _ c.header_length.ensures c.get2.ensures.0 in
     search rules
 
 pub slice_bounds-put_line-end : goal.slice_bounds-put_line-end
 slice_bounds-put_line-end c =
-    let the-loop = c.loop-i in
-    let loop-test = c.loop-i-test in
-    let h = entry_ends _ _ _ _ _ _ _ _ the-loop.invariant loop-test.true _ _ c.header_length.ensures c.get2.ensures.0 in
+    let h = entry_ends _ _ _ _ _ _ _ _ c.loop-i.invariant c.loop-i-test.true _ _ c.header_length.ensures c.get2.ensures.0 in
     search rules
 
 pub put_line-to-requires : goal.put_line-to-requires
-put_line-to-requires c =
-    let the-loop = c.loop-i in
-    let loop-test = c.loop-i-test in
-    let header-length = c.header_length in
-    line_fits _ _ _ _ _ _ _ _ the-loop.invariant loop-test.true _ _ header-length.ensures c.get2.ensures.0
+put_line-to-requires c = line_fits _ _ _ _ _ _ _ _ c.loop-i.invariant c.loop-i-test.true _ _ c.header_length.ensures c.get2.ensures.0
 
 pub loop-i-preserved : goal.loop-i-preserved
 loop-i-preserved c =
-    let the-loop = c.loop-i in
-    let loop-test = c.loop-i-test in
-    let header-length = c.header_length in
-    let get2 = c.get2 in
-    lining_next _ _ _ _ _ _ _ _ the-loop.invariant loop-test.true _ _ header-length.ensures get2.ensures.0 _ _ c.put_line-to.ensures
+    lining_next _ _ _ _ _ _ _ _ c.loop-i.invariant c.loop-i-test.true _ _ c.header_length.ensures c.get2.ensures.0 _ _ c.put_line-to.ensures
 
 pub shape_of-text : goal.shape_of-text
 shape_of-text c = put_length _ _ _ _ _ c.loop-i.invariant.front

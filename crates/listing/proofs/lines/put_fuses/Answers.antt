@@ -3,7 +3,4 @@ use Rattle.listing.proofs.LineLaws.{word_put}
 use Rattle.listing.proofs.lines.put_fuses.Goals as goal
 
 pub returns : goal.returns
-returns c =
-    let put_all = c.put_all-value in
-    let put-hex = c.put_hex-last in
-    word_put _ _ _ _ _ _ _ _ _ _ put_all.ensures put-hex.ensures c.put.ensures
+returns c = word_put _ _ _ _ _ _ _ _ _ _ c.put_all-value.ensures c.put_hex-last.ensures c.put.ensures

@@ -9,38 +9,27 @@ put_decimal-second-requires c = let l = line_is c.args.number c.args.kind c.args
 
 pub put_hex-third-requires : goal.put_hex-third-requires
 put_hex-third-requires c =
-    let put-decimal = c.put_decimal-second in
     let l = line_is c.args.number c.args.kind c.args.response.now in
-    let d = put-decimal.ensures.past in
+    let d = c.put_decimal-second.ensures.past in
     omega arith
 
 pub put_hexes-last-requires : goal.put_hexes-last-requires
 put_hexes-last-requires c =
-    let put-decimal = c.put_decimal-second in
-    let put-hex = c.put_hex-third in
     let l = line_is c.args.number c.args.kind c.args.response.now in
-    let d = put-decimal.ensures.past in
-    let h = put-hex.ensures.past in
+    let d = c.put_decimal-second.ensures.past in
+    let h = c.put_hex-third.ensures.past in
     omega arith
 
 pub put-requires : goal.put-requires
 put-requires c =
-    let put-decimal = c.put_decimal-second in
-    let put-hex = c.put_hex-third in
-    let put-hexes = c.put_hexes-last in
     let l = line_is c.args.number c.args.kind c.args.response.now in
-    let d = put-decimal.ensures.past in
-    let h = put-hex.ensures.past in
-    let x = put-hexes.ensures.past in
+    let d = c.put_decimal-second.ensures.past in
+    let h = c.put_hex-third.ensures.past in
+    let x = c.put_hexes-last.ensures.past in
     let y = hexes_length c.args.response.now in
     omega arith
 
 pub returns : goal.returns
 returns c =
-    let start =
-    c in
-    let put-decimal = c.put_decimal-second in
-    let put-hex = c.put_hex-third in
-    let put-hexes = c.put_hexes-last in
-    line_put _ start.args.kind start.args.response.now _ _ _ _ _ _ _ _ _ _
-    put-decimal.ensures put-hex.ensures put-hexes.ensures c.put.ensures
+    line_put _ c.args.kind c.args.response.now _ _ _ _ _ _ _ _ _ _
+    c.put_decimal-second.ensures c.put_hex-third.ensures c.put_hexes-last.ensures c.put.ensures

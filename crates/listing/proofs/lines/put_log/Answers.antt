@@ -20,23 +20,15 @@ pub put_entries-next-requires : goal.put_entries-next-requires
 put_entries-next-requires c = entries_ready _ c.requires _ _ c.get2.ensures.0 c.get4-start.ensures.0
 
 pub slice_bounds-put_card-end : goal.slice_bounds-put_card-end
-slice_bounds-put_card-end c =
-    let get4 = c.get4-start in
-    let get2 = c.get2 in
-    card_within _ c.requires _ _ get2.ensures.0 get4.ensures.0
+slice_bounds-put_card-end c = card_within _ c.requires _ _ c.get2.ensures.0 c.get4-start.ensures.0
 
 pub put_card-requires : goal.put_card-requires
 put_card-requires c =
-    let get4 = c.get4-start in
-    let get2 = c.get2 in
-    let put_entries = c.put_entries-next in (
-      card_long _ c.requires _ _ get2.ensures.0 get4.ensures.0,
-      entries_room _ c.requires _ _ get2.ensures.0 get4.ensures.0 _ _ _ put_entries.ensures,
+    (
+      card_long _ c.requires _ _ c.get2.ensures.0 c.get4-start.ensures.0,
+      entries_room _ c.requires _ _ c.get2.ensures.0 c.get4-start.ensures.0 _ _ _ c.put_entries-next.ensures,
     )
 
 pub returns : goal.returns
 returns c =
-    let get4 = c.get4-start in
-    let get2 = c.get2 in
-    let put_entries = c.put_entries-next in
-    log_put _ c.requires _ _ get2.ensures.0 get4.ensures.0 _ _ _ _ _ put_entries.ensures c.put_card.ensures
+    log_put _ c.requires _ _ c.get2.ensures.0 c.get4-start.ensures.0 _ _ _ _ _ c.put_entries-next.ensures c.put_card.ensures

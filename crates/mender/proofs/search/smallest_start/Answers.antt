@@ -19,58 +19,46 @@ pub loop-count-init : goal.loop-count-init
 loop-count-init c = reading_start _ _ (omega (arith, c.starts-test.true, c.records_end-end.ensures))
 
 pub slice_bounds-measure-count : goal.slice_bounds-measure-count
-slice_bounds-measure-count c = let w = c.loop-count.invariant.within in omega (arith, w, c.records_end-end.ensures)
+slice_bounds-measure-count c = omega (arith, c.loop-count.invariant.within, c.records_end-end.ensures)
 
 pub slice_bounds-measure-start : goal.slice_bounds-measure-start
-slice_bounds-measure-start c = let w = c.loop-count.invariant.within in omega (arith, w, c.records_end-end.ensures)
+slice_bounds-measure-start c = omega (arith, c.loop-count.invariant.within, c.records_end-end.ensures)
 
 pub slice_bounds-measure-end : goal.slice_bounds-measure-end
 slice_bounds-measure-end c = omega (arith, c.records_end-end.ensures)
 
 pub overflow_add-at : goal.overflow_add-at
 overflow_add-at c =
-    let the-loop = c.loop-count in
-    let records-end = c.records_end-end in
     let k =
-    next_whole (entry c).args.session.now the-loop.at _ records-end.ensures _ _
-    (sym (ap measured_of c.length-1.given.1) ∙ c.measure.ensures)
+    next_whole (entry c).args.session.now c.loop-count.at _ c.records_end-end.ensures _ _
+    (sym (ap measured_of c.in-Whole.is) ∙ c.measure.ensures)
     in
     let w = k.within in
     omega arith
 
 pub loop-count-preserved : goal.loop-count-preserved
 loop-count-preserved c =
-    let the-loop = c.loop-count in
-    let loop-test = c.loop-count-test in
-    let records-end = c.records_end-end in
     let k =
-    next_whole (entry c).args.session.now the-loop.at _ records-end.ensures _ _
-    (sym (ap measured_of c.length-1.given.1) ∙ c.measure.ensures)
+    next_whole (entry c).args.session.now c.loop-count.at _ c.records_end-end.ensures _ _
+    (sym (ap measured_of c.in-Whole.is) ∙ c.measure.ensures)
     in
-    reading_next _ _ _ _ the-loop.invariant loop-test.true k.instruction _ k.next (λ e. c.if-at-end.false (e ∙ sym records-end.ensures))
+    reading_next _ _ _ _ c.loop-count.invariant c.loop-count-test.true k.instruction _ k.next (λ e. c.if-at-end.false (e ∙ sym c.records_end-end.ensures))
 
 pub starts-preserved : goal.starts-preserved
 starts-preserved c =
-    let session = c.args.session.now in
-    let the-loop = c.loop-count in
-    let starts = c.starts in
-    let ends = c.records_end-end.ensures in
-    trying_next _ _ starts.invariant (omega (arith, c.starts-test.true, ends))
-    (⊎_elim (λ w. reading_full _ _ _ _ the-loop.invariant w.left)
-    (λ w. reading_refused _ _ _ _ the-loop.invariant w.0.taken _
-    (next_refused session the-loop.at _ ends _ (sym (ap measured_of w.4.given.1) ∙ w.2.ensures)))
+    trying_next _ _ c.starts.invariant (omega (arith, c.starts-test.true, c.records_end-end.ensures))
+    (⊎_elim (λ w. reading_full _ _ _ _ c.loop-count.invariant w.left)
+    (λ w. reading_refused _ _ _ _ c.loop-count.invariant w.0.taken _
+    (next_refused c.args.session.now c.loop-count.at _ c.records_end-end.ensures _ (sym (ap measured_of w.4.given.1) ∙ w.2.ensures)))
     c.loop-count-test.branch)
 
 pub returns-then-start-end : goal.returns-then-start-end
 returns-then-start-end c =
-    let session = c.args.session.now in
-    let starts = c.starts in
-    let ends = c.records_end-end.ensures in
     ⊎_elim (λ w. absurd (let z : ⊥ = omega (arith, c.if-start-end.true, w.0.left) in z))
     (λ out.
-    let k = next_whole session out.1.at _ ends _ _ (sym (ap measured_of out.6.given.1) ∙ out.4.ensures) in
-    trying_found _ _ starts.invariant (omega (arith, c.if-start-end.true, ends)) _ _ out.9
-    (reading_last _ _ _ _ out.1.inv out.2.taken k.instruction _ k.next (out.8.taken ∙ ends)))
+    let k = next_whole c.args.session.now out.1.at _ c.records_end-end.ensures _ _ (sym (ap measured_of out.6.given.1) ∙ out.4.ensures) in
+    trying_found _ _ c.starts.invariant (omega (arith, c.if-start-end.true, c.records_end-end.ensures)) _ _ out.9
+    (reading_last _ _ _ _ out.1.inv out.2.taken k.instruction _ k.next (out.8.taken ∙ c.records_end-end.ensures)))
     c.starts-test.branch
 
 pub returns : goal.returns

@@ -37,7 +37,7 @@ pub returns-in-Refused : goal.returns-in-Refused
 returns-in-Refused c =
     tabled_refused _ _ _ _
     (sym (next_refused c.args.session.now c.args.at c.args.end c.requires.1 _
-    (sym (ap measured_of c.enum_told-1.given.1) ∙ c.measure.ensures)))
+    (sym (ap measured_of c.in-Refused.is) ∙ c.measure.ensures)))
 
 pub returns-else-next-end : goal.returns-else-next-end
 returns-else-next-end c =

@@ -10,38 +10,17 @@ returns-then-part-eq0 c = search no_kind
 pub returns-then-not-is_known : goal.returns-then-not-is_known
 returns-then-not-is_known c = search unknown
 
-pub fixed_fields-start-requires : goal.fixed_fields-start-requires
-fixed_fields-start-requires c = kind_within _ _ c.is_known.ensures c.if-not-is_known.false
-
 pub overflow_add-start : goal.overflow_add-start
 overflow_add-start c = rw c.fixed_fields-start.ensures (omega (arith, fixed_small c.byte_at-kind.result))
 
 pub returns-then-part-start : goal.returns-then-part-start
 returns-then-part-start c = search fields_absent
 
-pub in_range-requires : goal.in_range-requires
-in_range-requires c =
-    let is_Known = c.is_known in
-    let if2 = c.if-not-is_known in
-    kind_within _ _ is_Known.ensures if2.false
-
 pub returns-then-not-in_range : goal.returns-then-not-in_range
 returns-then-not-in_range c = search out_of_range
 
-pub record_length-end-requires : goal.record_length-end-requires
-record_length-end-requires c =
-    let is_Known = c.is_known in
-    let if2 = c.if-not-is_known in
-    kind_within _ _ is_Known.ensures if2.false
-
 pub returns-then-part-end : goal.returns-then-part-end
 returns-then-part-end c = search data_absent
-
-pub answer_length-requires : goal.answer_length-requires
-answer_length-requires c =
-    let is_Known = c.is_known in
-    let if2 = c.if-not-is_known in
-    kind_within _ _ is_Known.ensures if2.false
 
 pub returns : goal.returns
 returns c = search all_there

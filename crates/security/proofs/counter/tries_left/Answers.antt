@@ -3,8 +3,5 @@ use borrow.Author.Rules.{rules}
 use Rattle.security.proofs.CounterLaws.{ones_left, ones_small}
 use Rattle.security.proofs.counter.tries_left.Goals as goal
 
-pub overflow_cast-result : goal.overflow_cast-result
-overflow_cast-result c = record { fits = ones_small _ (search rules) }
-
 pub returns : goal.returns
 returns c = ones_left _ (search rules)

@@ -14,15 +14,13 @@ pub loop-k-init : goal.loop-k-init
 loop-k-init c = (omega arith, tab_start _ _)
 
 pub loop-k-preserved : goal.loop-k-preserved
-loop-k-preserved c =
-    let the-loop = c.loop-k in (
-      search rules,
-      tab_next _ _ _ 16 _ _ the-loop.invariant.1 (search rules) (omega arith)
-          (c.tries_left.ensures ∙ ap (λ (j : ℕ). tries_left (at c.args.card.now j)) c.counter_at.ensures),
-    )
+loop-k-preserved c = (
+  search rules,
+  tab_next _ _ _ 16 _ _ c.loop-k.invariant.1 (search rules) (omega arith)
+      (c.tries_left.ensures ∙ ap (λ (j : ℕ). tries_left (at c.args.card.now j)) c.counter_at.ensures),
+)
 
 pub returns : goal.returns
 returns c =
-    let the-loop = c.loop-k in
-    all_tries _ (replicate 17 0) _ _ (tab_done _ _ 16 (replicate 17 0) _ the-loop.invariant.1 the-loop.invariant.0 (search rules)) refl
+    all_tries _ (replicate 17 0) _ _ (tab_done _ _ 16 (replicate 17 0) _ c.loop-k.invariant.1 c.loop-k.invariant.0 (search rules)) refl
     c.tries_left-2.ensures

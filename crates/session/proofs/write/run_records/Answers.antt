@@ -8,66 +8,40 @@ pub loop-left-init : goal.loop-left-init
 loop-left-init c = going_start _ _ _ _ _ _ c.power_on-state.ensures c.requires
 
 pub slice_bounds-head_of-count : goal.slice_bounds-head_of-count
-slice_bounds-head_of-count c = let f = c.loop-left.invariant.forth in let e = c.records_end-end.ensures in search rules
+slice_bounds-head_of-count c = search rules
 
 pub slice_bounds-head_of-start : goal.slice_bounds-head_of-start
-slice_bounds-head_of-start c = let f = c.loop-left.invariant.forth in let e = c.records_end-end.ensures in search rules
+slice_bounds-head_of-start c = search rules
 
 pub slice_bounds-head_of-end : goal.slice_bounds-head_of-end
-slice_bounds-head_of-end c = let f = c.loop-left.invariant.forth in let e = c.records_end-end.ensures in search rules
+slice_bounds-head_of-end c = search rules
 
 pub slice_bounds-write_entry-count : goal.slice_bounds-write_entry-count
-slice_bounds-write_entry-count c =
-    let f = c.loop-left.invariant.forth in
-    let e = c.records_end-end.ensures in
-    search rules
+slice_bounds-write_entry-count c = search rules
 
 pub slice_bounds-write_entry-start : goal.slice_bounds-write_entry-start
-slice_bounds-write_entry-start c =
-    let f = c.loop-left.invariant.forth in
-    let e = c.records_end-end.ensures in
-    search rules
+slice_bounds-write_entry-start c = search rules
 
 pub slice_bounds-write_entry-end : goal.slice_bounds-write_entry-end
-slice_bounds-write_entry-end c =
-    let f = c.loop-left.invariant.forth in
-    let e = c.records_end-end.ensures in
-    search rules
+slice_bounds-write_entry-end c = search rules
 
 pub write_entry-entered-requires : goal.write_entry-entered-requires
 write_entry-entered-requires c =
-    let records-end = c.records_end-end in
-    let the-loop = c.loop-left in
-    let loop-test = c.loop-left-test in
-    let head_of = c.head_of-head in
-    (head_of.ensures, rw records-end.ensures (going_ready _ _ _ _ _ _ _ _ _ _ _ the-loop.invariant loop-test.true))
+    (c.head_of-head.ensures, rw c.records_end-end.ensures (going_ready _ _ _ _ _ _ _ _ _ _ _ c.loop-left.invariant c.loop-left-test.true))
 
 pub record_length-at-requires : goal.record_length-at-requires
 record_length-at-requires c =
-    let records-end = c.records_end-end in
-    let the-loop = c.loop-left in
-    let loop-test = c.loop-left-test in
-    let head_of = c.head_of-head in
-    going_known _ _ _ _ _ _ _ _ _ _ _ the-loop.invariant loop-test.true _ (rw records-end.ensures at head_of.ensures)
+    going_known _ _ _ _ _ _ _ _ _ _ _ c.loop-left.invariant c.loop-left-test.true _ (rw c.records_end-end.ensures at c.head_of-head.ensures)
 
 pub overflow_add-at : goal.overflow_add-at
 overflow_add-at c =
-    let records-end = c.records_end-end in
-    let the-loop = c.loop-left in
-    let loop-test = c.loop-left-test in
-    let head_of = c.head_of-head in
-    let h = rw records-end.ensures at head_of.ensures in
-    let w = going_forth _ _ _ _ _ _ _ _ _ _ _ the-loop.invariant loop-test.true _ h _ c.record_length-at.ensures in omega arith
+    let h = rw c.records_end-end.ensures at c.head_of-head.ensures in
+    let w = going_forth _ _ _ _ _ _ _ _ _ _ _ c.loop-left.invariant c.loop-left-test.true _ h _ c.record_length-at.ensures in omega arith
 
 pub loop-left-preserved : goal.loop-left-preserved
 loop-left-preserved c =
-    let records-end = c.records_end-end in
-    let the-loop = c.loop-left in
-    let loop-test = c.loop-left-test in
-    let head_of = c.head_of-head in
-    let write-entry = c.write_entry-entered in
-    going_next _ _ _ _ _ _ _ _ _ _ _ the-loop.invariant loop-test.true _ _ _ _ (rw records-end.ensures at write-entry.ensures)
-    _ (rw records-end.ensures at head_of.ensures) _ c.record_length-at.ensures
+    going_next _ _ _ _ _ _ _ _ _ _ _ c.loop-left.invariant c.loop-left-test.true _ _ _ _ (rw c.records_end-end.ensures at c.write_entry-entered.ensures)
+    _ (rw c.records_end-end.ensures at c.head_of-head.ensures) _ c.record_length-at.ensures
 
 pub shape_of-card : goal.shape_of-card
 shape_of-card c = c.loop-left.invariant.good.fit.long ∙ sym c.requires.good.fit.long

@@ -16,10 +16,7 @@ put_header-end-requires c = header_room _ _ _ _ c.requires.1 _ c.requires.0
 
 pub returns-then-is_ignored : goal.returns-then-is_ignored
 returns-then-is_ignored c =
-    let is-halted = c.is_halted-halted in
-    let is-ignored = c.is_ignored in
-    let if1 = c.if-is_ignored in
-    entry_ignored _ _ _ _ c.requires.1 _ c.requires.0 _ _ is-halted.ensures is-ignored.ensures if1.true _ _
+    entry_ignored _ _ _ _ c.requires.1 _ c.requires.0 _ _ c.is_halted-halted.ensures c.is_ignored.ensures c.if-is_ignored.true _ _
     c.put_header-end.ensures.0 c.put_header-end.ensures.1
 
 pub answer_length-response-requires : goal.answer_length-response-requires
@@ -33,34 +30,23 @@ record_length-end-requires c = entry_known _ _ _ _ c.requires.1 _ c.requires.0
 
 pub slice_bounds-carry_out-count : goal.slice_bounds-carry_out-count
 slice_bounds-carry_out-count c =
-    let answer_length_lem = c.answer_length-response in
-    let put-header2 = c.put_header-from in
-    let w = response_room _ _ _ _ c.requires.1 _ c.requires.0 _ _ answer_length_lem.ensures put-header2.ensures.1 in search rules
+    let w = response_room _ _ _ _ c.requires.1 _ c.requires.0 _ _ c.answer_length-response.ensures c.put_header-from.ensures.1 in search rules
 
 pub slice_bounds-carry_out-start : goal.slice_bounds-carry_out-start
 slice_bounds-carry_out-start c =
-    let answer_length_lem = c.answer_length-response in
-    let put-header2 = c.put_header-from in
-    let w = response_room _ _ _ _ c.requires.1 _ c.requires.0 _ _ answer_length_lem.ensures put-header2.ensures.1 in search rules
+    let w = response_room _ _ _ _ c.requires.1 _ c.requires.0 _ _ c.answer_length-response.ensures c.put_header-from.ensures.1 in search rules
 
 pub slice_bounds-carry_out-end : goal.slice_bounds-carry_out-end
 slice_bounds-carry_out-end c =
-    let answer_length_lem = c.answer_length-response in
-    let put-header2 = c.put_header-from in
-    let w = response_room _ _ _ _ c.requires.1 _ c.requires.0 _ _ answer_length_lem.ensures put-header2.ensures.1 in search rules
+    let w = response_room _ _ _ _ c.requires.1 _ c.requires.0 _ _ c.answer_length-response.ensures c.put_header-from.ensures.1 in search rules
 
 pub carry_out-done-requires : goal.carry_out-done-requires
 carry_out-done-requires c =
-    let is-halted = c.is_halted-halted in
-    let is-ignored = c.is_ignored in
-    let if1 = c.if-is_ignored in
-    let answer_length_lem = c.answer_length-response in
-    let put-header2 = c.put_header-from in
     let k = entry_known _ _ _ _ c.requires.1 _ c.requires.0 in (
       k.0,
       k.1,
-      entry_ready _ _ _ _ c.requires.1 _ c.requires.0 _ _ is-halted.ensures is-ignored.ensures if1.false _ _ _ _
-          answer_length_lem.ensures put-header2.ensures.0 put-header2.ensures.1 c.record_length-end.ensures _ _ refl refl,
+      entry_ready _ _ _ _ c.requires.1 _ c.requires.0 _ _ c.is_halted-halted.ensures c.is_ignored.ensures c.if-is_ignored.false _ _ _ _
+          c.answer_length-response.ensures c.put_header-from.ensures.0 c.put_header-from.ensures.1 c.record_length-end.ensures _ _ refl refl,
     )
 
 pub overflow_add-result : goal.overflow_add-result
@@ -70,18 +56,9 @@ overflow_add-result c =
     c.requires.0 _ _
     c.answer_length-response.ensures
     c.put_header-from.ensures.1 in
-    let l = c.put_header-from.auto.0 in
-    let b = c.well-formed.1.1.1.1.0.0 in
     omega arith
 
 pub returns : goal.returns
 returns c =
-    let is-halted = c.is_halted-halted in
-    let is-ignored = c.is_ignored in
-    let if1 = c.if-is_ignored in
-    let answer_length_lem = c.answer_length-response in
-    let put-header2 = c.put_header-from in
-    let record-length = c.record_length-end in
-    let carry-out = c.carry_out-done in
-    entry_written _ _ _ _ c.requires.1 _ c.requires.0 _ _ is-halted.ensures is-ignored.ensures if1.false _ _ _ _ answer_length_lem.ensures
-    put-header2.ensures.0 put-header2.ensures.1 record-length.ensures _ _ refl refl _ _ _ _ carry-out.ensures
+    entry_written _ _ _ _ c.requires.1 _ c.requires.0 _ _ c.is_halted-halted.ensures c.is_ignored.ensures c.if-is_ignored.false _ _ _ _ c.answer_length-response.ensures
+    c.put_header-from.ensures.0 c.put_header-from.ensures.1 c.record_length-end.ensures _ _ refl refl _ _ _ _ c.carry_out-done.ensures

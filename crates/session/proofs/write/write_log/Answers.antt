@@ -34,10 +34,7 @@ pub card_of-card-requires : goal.card_of-card-requires
 card_of-card-requires c = let l = session_long _ _ c.requires in omega arith
 
 pub run_records-entries-requires : goal.run_records-entries-requires
-run_records-entries-requires c =
-    let get4 = c.get4-start in
-    let get2 = c.get2-count in
-    records_ready _ _ c.requires _ _ _ c.card_of-card.ensures get4.ensures.0 get2.ensures.0
+run_records-entries-requires c = records_ready _ _ c.requires _ _ _ c.card_of-card.ensures c.get4-start.ensures.0 c.get2-count.ensures.0
 
 pub copy-requires : goal.copy-requires
 copy-requires c = let e = room c in search rules
@@ -54,9 +51,5 @@ overflow_add-result c = let e = room c in omega arith
 pub returns : goal.returns
 returns c =
     let start = entry c in
-    let get4 = c.get4-start in
-    let get2 = c.get2-count in
-    let card-of = c.card_of-card in
-    let copy = c.copy in
-    log_written _ _ start.pre _ _ _ card-of.ensures get4.ensures.0 get2.ensures.0 _ _ _ c.run_records-entries.ensures _ _ copy.ensures
+    log_written _ _ start.pre _ _ _ c.card_of-card.ensures c.get4-start.ensures.0 c.get2-count.ensures.0 _ _ _ c.run_records-entries.ensures _ _ c.copy.ensures
     c.put_trailer.ensures

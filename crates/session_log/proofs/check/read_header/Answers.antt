@@ -14,26 +14,20 @@ begun c =
     (λ w. begun_unnamed _ _ (entry c).args.last _ c.before.names-zone.ensures w.0.left _ w.1) c.if1.branch
 
 pub returns-then-log-from-gt7 : goal.returns-then-log-from-gt7
-returns-then-log-from-gt7 c =
-    let names-zone = c.names_zone in
-    bad_zone _ _ _ _ names-zone.ensures c.if-names_zone.true c.if-log-from-gt7.true _
+returns-then-log-from-gt7 c = bad_zone _ _ _ _ c.names_zone.ensures c.if-names_zone.true c.if-log-from-gt7.true _
 
 pub overflow_add-end : goal.overflow_add-end
 overflow_add-end c = ⊎_elim (λ w. let e = w.3 in search rules) (λ w. let e = w.1 in search rules) c.if-names_zone.branch
 
 pub returns-then-last-end : goal.returns-then-last-end
-returns-then-last-end c =
-    let get2 = c.get2-response in
-    beyond _ _ _ _ _ get2.ensures.0 (begun c) c.if-last-end.true
+returns-then-last-end c = beyond _ _ _ _ _ c.get2-response.ensures.0 (begun c) c.if-last-end.true
 
 pub returns-then-not-entry_fits : goal.returns-then-not-entry_fits
 returns-then-not-entry_fits c =
-    let get2 = c.get2-response in
     let b = begun c in
-    misfit _ _ _ _ _ get2.ensures.0 b _ c.entry_fits.ensures c.if-not-entry_fits.true
+    misfit _ _ _ _ _ c.get2-response.ensures.0 b _ c.entry_fits.ensures c.if-not-entry_fits.true
 
 pub returns : goal.returns
 returns c =
-    let get2 = c.get2-response in
     let b = begun c in
-    well_read _ _ _ _ _ get2.ensures.0 b _ c.entry_fits.ensures c.if-last-end.false c.if-not-entry_fits.false
+    well_read _ _ _ _ _ c.get2-response.ensures.0 b _ c.entry_fits.ensures c.if-last-end.false c.if-not-entry_fits.false

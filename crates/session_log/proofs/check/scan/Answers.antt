@@ -8,20 +8,15 @@ pub loop-i-init : goal.loop-i-init
 loop-i-init c = walking_start _ _ _ _
 
 pub overflow_add-headers : goal.overflow_add-headers
-overflow_add-headers c = let e = c.loop-i.invariant.each in omega arith
+overflow_add-headers c = omega arith
 
 pub returns-then-header-eq0 : goal.returns-then-header-eq0
 returns-then-header-eq0 c =
-    let the-loop = c.loop-i in
-    let loop-test = c.loop-i-test in
-    walking_bad _ _ _ _ _ _ _ _ _ the-loop.invariant loop-test.true _ _ c.read_header-header.ensures c.if-header-eq0.true
+    walking_bad _ _ _ _ _ _ _ _ _ c.loop-i.invariant c.loop-i-test.true _ _ c.read_header-header.ensures c.if-header-eq0.true
 
 pub loop-i-preserved : goal.loop-i-preserved
 loop-i-preserved c =
-    let the-loop = c.loop-i in
-    let loop-test = c.loop-i-test in
-    let read-header = c.read_header-header in
-    walking_next _ _ _ _ _ _ _ _ _ the-loop.invariant loop-test.true _ _ read-header.ensures _ _ c.if-header-eq0.false
+    walking_next _ _ _ _ _ _ _ _ _ c.loop-i.invariant c.loop-i-test.true _ _ c.read_header-header.ensures _ _ c.if-header-eq0.false
     c.kept-from.ensures c.kept-to.ensures
 
 pub returns : goal.returns

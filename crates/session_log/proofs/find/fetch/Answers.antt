@@ -34,9 +34,7 @@ get4-requires c = let t = trailer_is c.args.log.now c.args.number _ c.trailer_ok
 
 pub scan-scanned-requires : goal.scan-scanned-requires
 scan-scanned-requires c =
-    let trailer-ok = c.trailer_ok in
-    let t = trailer_is c.args.log.now c.args.number _ trailer-ok.ensures c.if-not-trailer_ok.false in
-    let g = c.get4.ensures.0 in
+    let t = trailer_is c.args.log.now c.args.number _ c.trailer_ok.ensures c.if-not-trailer_ok.false in
     omega arith
 
 pub returns-then-not-scanned : goal.returns-then-not-scanned

@@ -13,32 +13,25 @@ put2-requires c = simp length-set (omega arith)
 
 pub bounds-log-at-then-names_zone : goal.bounds-log-at-then-names_zone
 bounds-log-at-then-names_zone c =
-    let put2 = c.put2 in
-    let l = header_long c.args.log.now _ c.args.at c.args.kind c.args.response c.args.zone put2.ensures in
+    let l = header_long c.args.log.now _ c.args.at c.args.kind c.args.response c.args.zone c.put2.ensures in
     omega arith
 
 pub shape_of-log-then-names_zone : goal.shape_of-log-then-names_zone
-shape_of-log-then-names_zone c =
-    let put2 = c.put2 in
-    simp length-set (header_long c.args.log.now _ c.args.at c.args.kind c.args.response c.args.zone put2.ensures)
+shape_of-log-then-names_zone c = simp length-set (header_long c.args.log.now _ c.args.at c.args.kind c.args.response c.args.zone c.put2.ensures)
 
 pub returns-then-names_zone : goal.returns-then-names_zone
 returns-then-names_zone c =
-    let put2 = c.put2 in
     let named = sym c.names_zone.ensures ∙ c.if-names_zone.true in (
-      zone_put c.args.log.now _ c.args.at c.args.kind c.args.response c.args.zone put2.ensures named,
+      zone_put c.args.log.now _ c.args.at c.args.kind c.args.response c.args.zone c.put2.ensures named,
       ap (λ n. c.args.at + n) (header_four zoned _ _ c.names_zone.ensures c.if-names_zone.true),
     )
 
 pub shape_of-log : goal.shape_of-log
-shape_of-log c =
-    let put2 = c.put2 in
-    header_long c.args.log.now _ c.args.at c.args.kind c.args.response c.args.zone put2.ensures
+shape_of-log c = header_long c.args.log.now _ c.args.at c.args.kind c.args.response c.args.zone c.put2.ensures
 
 pub returns : goal.returns
 returns c =
-    let put2 = c.put2 in
     let named = sym c.names_zone.ensures ∙ c.if-names_zone.false in (
-      header_put c.args.log.now _ c.args.at c.args.kind c.args.response c.args.zone put2.ensures named,
+      header_put c.args.log.now _ c.args.at c.args.kind c.args.response c.args.zone c.put2.ensures named,
       ap (λ n. c.args.at + n) (header_three zoned _ _ c.names_zone.ensures c.if-names_zone.false),
     )
