@@ -21,7 +21,7 @@ use Rattle.model.specs.Mender.{Mended, mend}
 use Rattle.properties.specs.HeadersRead.{fetched_found, headers_most}
 use Rattle.exports.specs.Exports.{run_call, told_run, exported_run, exported_box_run, command_call, told_command, exported_command, told_answer}
 use Rattle.exports.specs.Exports.{exported_answer, exported_writing, told_mending, exported_mending}
-use Rattle.results.specs.Results.{result, command_result, mend_result}
+use Rattle.results.specs.Results.{run_result, command_result, mend_result}
 use Rattle.exports.specs.Lengths.{response_small, run_small, box_run_small, answer_small, writing_small, mending_small}
 use Rattle.state_bytes.specs.StateBytes.{is_state, state_of, state_after}
 use Rattle.state_bytes.specs.StateLaws.{state_long, state_range}
@@ -32,7 +32,7 @@ module _ (s space : List ℕ) (x : Ran) (ran : x ≡ run s space) where
   pub log_fits : Bytes s → x.size ≤ 2 ^ 32
   log_fits b = let e = ap (λ (y : Ran). y.size) ran in let h = run_small s space b in omega arith
 
-  pub run_told : (r : ℕ) → r ≡ result x.refusal x.size → run_call r x.space ≡ exported_run s space
+  pub run_told : (r : ℕ) → r ≡ run_result x.refusal x.size → run_call r x.space ≡ exported_run s space
   run_told r e = ap (λ (n : ℕ). run_call n x.space) e ∙ ap told_run ran
 
 -- ---- a session in the box
@@ -41,7 +41,7 @@ module _ (s space : List ℕ) (x : Ran) (ran : x ≡ box_run s space) where
   pub box_log_fits : Bytes s → x.size ≤ 2 ^ 32
   box_log_fits b = let e = ap (λ (y : Ran). y.size) ran in let h = box_run_small s space b in omega arith
 
-  pub box_run_told : (r : ℕ) → r ≡ result x.refusal x.size → run_call r x.space ≡ exported_box_run s space
+  pub box_run_told : (r : ℕ) → r ≡ run_result x.refusal x.size → run_call r x.space ≡ exported_box_run s space
   box_run_told r e = ap (λ (n : ℕ). run_call n x.space) e ∙ ap told_run ran
 
 -- ---- an answer
@@ -104,7 +104,7 @@ module _ (p : Parts) (space : List ℕ) (x : Ran) (written : x ≡ write_session
   pub session_fits : x.size ≤ 2 ^ 32
   session_fits = let e = ap (λ (y : Ran). y.size) written in let h = writing_small p space in omega arith
 
-  pub writing_told : (r : ℕ) → r ≡ result x.refusal x.size → run_call r x.space ≡ exported_writing p space
+  pub writing_told : (r : ℕ) → r ≡ run_result x.refusal x.size → run_call r x.space ≡ exported_writing p space
   writing_told r e = ap (λ (n : ℕ). run_call n x.space) e ∙ ap told_run written
 
 -- ---- a session that is mended

@@ -9,7 +9,7 @@ use Rattle.model.specs.State.{State}
 use Rattle.model.specs.Writer.{Parts, write_session}
 use Rattle.model.specs.Mender.{Mended, mend}
 use Rattle.state_bytes.specs.StateBytes.{state_of, state_after}
-use Rattle.results.specs.Results.{result, command_result, answer_result, mend_result}
+use Rattle.results.specs.Results.{run_result, command_result, answer_result, mend_result}
 
 -- ---- at88sc1608_run
 
@@ -23,7 +23,7 @@ run_call r space = record { result = r; space = space }
 
 -- what the model's run tells of them
 abbrev pub told_run : Ran → RunCall
-told_run x = run_call (result x.refusal x.size) x.space
+told_run x = run_call (run_result x.refusal x.size) x.space
 
 -- of a session and a log space
 abbrev pub exported_run : List ℕ → List ℕ → RunCall

@@ -16,14 +16,14 @@ use Rattle.properties.specs.Refused.{refused_command, refused_run, refused_box, 
 use Rattle.exports.specs.Exports.{run_call, told_run, exported_run, exported_box_run, command_call, told_command, exported_command, told_answer}
 use Rattle.exports.specs.Exports.{exported_answer, exported_writing, told_mending, exported_mending}
 use Rattle.exports.specs.ExportedCommandLaws.{unread_refused, result_read}
-use Rattle.results.specs.Results.{result, command_result, answer_result, mend_result}
+use Rattle.results.specs.Results.{run_result, command_result, answer_result, mend_result}
 use Rattle.state_bytes.specs.StateBytes.{is_state, state_of}
 
 -- a number beside which nothing is told
 number_alone : (n : ℕ) → command_result n 0 0 0 ≡ n
 number_alone n = omega arith
 
-length_none : (n : ℕ) → result n 0 ≡ n
+length_none : (n : ℕ) → run_result n 0 ≡ n
 length_none n = omega arith
 
 -- at88sc1608_command: the card, the state's bytes and the response space

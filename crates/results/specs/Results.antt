@@ -2,8 +2,8 @@
 use Rattle.std.specs.Prelude.{ℕ, ◌+◌, ◌*◌, ◌^◌}
 
 -- the refusal's number, or 0, and 2^8 times a length
-abbrev pub result : ℕ → ℕ → ℕ
-result refusal n = refusal + 2 ^ 8 * n
+abbrev pub run_result : ℕ → ℕ → ℕ
+run_result refusal n = refusal + 2 ^ 8 * n
 
 -- the refusal's number, or 0, 2^8 times the response's length, 2^24 times the tries left and 2^32 times the kind that is answered
 abbrev pub command_result : ℕ → ℕ → ℕ → ℕ → ℕ

@@ -4,14 +4,14 @@
 ghost use Rattle.std.specs.Prelude.{◌≡◌, ◌*◌, ◌≤◌, ◌^◌};
 ghost use Rattle.model.specs.Sizes.{greatest_session, most_records};
 ghost use Rattle.record.specs.RefusalNumber.{outcome_number};
-ghost use Rattle.results.specs.Results.{result, command_result, answer_result, mend_result};
+ghost use Rattle.results.specs.Results.{run_result, command_result, answer_result, mend_result};
 
 use record::refusal::{Outcome, outcome_number};
 
 // helper: the refusal's number, or 0, with 2^8 times a length.
 pub fn result_number(outcome: Outcome, length: usize) -> u64
     requires { length ≤ 2 ^ 32 }
-    ensures* { λ r. ⌜ r ≡ result (outcome_number outcome) length ⌝ }
+    ensures { result ≡ run_result (outcome_number outcome) length }
 {
     let refusal = outcome_number(outcome) as u64;
     let long = length as u64;
@@ -21,7 +21,7 @@ pub fn result_number(outcome: Outcome, length: usize) -> u64
 // helper: the refusal's number, or 0, with 2^8 times a length, 2^24 times the tries left and 2^32 times the kind that is answered.
 pub fn command_number(outcome: Outcome, length: usize, tries: u8, kind: u8) -> u64
     requires { length ≤ 2 ^ 32 }
-    ensures* { λ r. ⌜ r ≡ command_result (outcome_number outcome) length tries kind ⌝ }
+    ensures { result ≡ command_result (outcome_number outcome) length tries kind }
 {
     let refusal = outcome_number(outcome) as u64;
     let long = length as u64;
@@ -33,7 +33,7 @@ pub fn command_number(outcome: Outcome, length: usize, tries: u8, kind: u8) -> u
 // helper: the refusal's number, or 0, with 2^8 times an answer's length, 2^24 times the headers that were read and 2^40 times where it begins.
 pub fn answer_number(outcome: Outcome, length: usize, headers: usize, from: usize) -> u64
     requires { (length ≤ 256) × (headers ≤ most_records) × (from ≤ 260 * most_records) }
-    ensures* { λ r. ⌜ r ≡ answer_result (outcome_number outcome) length headers from ⌝ }
+    ensures { result ≡ answer_result (outcome_number outcome) length headers from }
 {
     let refusal = outcome_number(outcome) as u64;
     let long = length as u64;
@@ -45,7 +45,7 @@ pub fn answer_number(outcome: Outcome, length: usize, headers: usize, from: usiz
 // helper: the refusal's number, or 0, with 2^8 times a count and 2^32 times where the records start.
 pub fn mend_number(outcome: Outcome, count: usize, start: usize) -> u64
     requires { (count ≤ most_records) × (start ≤ greatest_session) }
-    ensures* { λ r. ⌜ r ≡ mend_result (outcome_number outcome) count start ⌝ }
+    ensures { result ≡ mend_result (outcome_number outcome) count start }
 {
     let refusal = outcome_number(outcome) as u64;
     let many = count as u64;

@@ -80,43 +80,43 @@ judge-requires c = let k = last_kind _ c.requires.0 c.requires.1 c.in_default.re
 pub returns-in-2 : goal.returns-in-2
 unfolding record_of any.apply
 returns-in-2 c =
-    rw c.in-2.is (answered _ _ _ _ _ _ _ _ (without_tries _ _ _ _ _ _ _ _ _ c.settled.ensures.0 c.settled.ensures.1 refl refl refl
-    c.answer_to_reset.ensures.0) c.answer_to_reset.ensures.1)
+    rw c.in-2.is (answered _ _ _ _ _ _ _ _ (without_tries _ _ _ _ _ _ _ _ _ c.settled.ensures.state c.settled.ensures.tries refl refl refl
+    c.answer_to_reset.ensures.state) c.answer_to_reset.ensures.answer)
 
 pub returns-in-3 : goal.returns-in-3
 unfolding record_of any.apply
 returns-in-3 c =
-    rw c.in-3.is (answered _ _ _ _ _ _ _ _ (without_tries _ _ _ _ _ _ _ _ _ c.settled-in-3.ensures.0 c.settled-in-3.ensures.1
+    rw c.in-3.is (answered _ _ _ _ _ _ _ _ (without_tries _ _ _ _ _ _ _ _ _ c.settled-in-3.ensures.state c.settled-in-3.ensures.tries
     refl refl refl c.selecting.ensures) refl)
 
 pub returns-in-4 : goal.returns-in-4
 unfolding record_of any.apply
 returns-in-4 c =
-    rw (c.in-4.is, ← c.read_count.ensures) (answered _ _ _ _ _ _ _ _ (without_tries _ _ _ _ _ _ _ _ _ c.settled-in-4.ensures.0
-    c.settled-in-4.ensures.1 refl refl refl refl) c.read_zone.ensures)
+    rw (c.in-4.is, ← c.read_count.ensures) (answered _ _ _ _ _ _ _ _ (without_tries _ _ _ _ _ _ _ _ _ c.settled-in-4.ensures.state
+    c.settled-in-4.ensures.tries refl refl refl refl) c.read_zone.ensures)
 
 pub returns-in-5 : goal.returns-in-5
 unfolding record_of any.apply
 returns-in-5 c =
-    rw c.in-5.is (answered _ _ _ _ _ _ _ _ (without_tries _ _ _ _ _ _ _ _ _ c.settled-in-5.ensures.0 c.settled-in-5.ensures.1 refl refl
+    rw c.in-5.is (answered _ _ _ _ _ _ _ _ (without_tries _ _ _ _ _ _ _ _ _ c.settled-in-5.ensures.state c.settled-in-5.ensures.tries refl refl
     c.write_zone.ensures refl) refl)
 
 pub returns-in-6 : goal.returns-in-6
 unfolding record_of any.apply
 returns-in-6 c =
-    rw c.in-6.is (answered _ _ _ _ _ _ _ _ (without_tries _ _ _ _ _ _ _ _ _ c.settled-in-6.ensures.0 c.settled-in-6.ensures.1 refl refl refl
+    rw c.in-6.is (answered _ _ _ _ _ _ _ _ (without_tries _ _ _ _ _ _ _ _ _ c.settled-in-6.ensures.state c.settled-in-6.ensures.tries refl refl refl
     refl) c.read_configuration.ensures)
 
 pub returns-in-7 : goal.returns-in-7
 unfolding record_of any.apply
 returns-in-7 c =
-    rw c.in-7.is (answered _ _ _ _ _ _ _ _ (without_tries _ _ _ _ _ _ _ _ _ c.settled-in-7.ensures.0 c.settled-in-7.ensures.1 refl refl
+    rw c.in-7.is (answered _ _ _ _ _ _ _ _ (without_tries _ _ _ _ _ _ _ _ _ c.settled-in-7.ensures.state c.settled-in-7.ensures.tries refl refl
     c.write_configuration.ensures refl) refl)
 
 pub returns-in-8 : goal.returns-in-8
 unfolding record_of any.apply
 returns-in-8 c =
-    rw c.in-8.is (answered _ _ _ _ _ _ _ _ (without_tries _ _ _ _ _ _ _ _ _ c.settled-in-8.ensures.0 c.settled-in-8.ensures.1 refl refl refl
+    rw c.in-8.is (answered _ _ _ _ _ _ _ _ (without_tries _ _ _ _ _ _ _ _ _ c.settled-in-8.ensures.state c.settled-in-8.ensures.tries refl refl refl
     refl) c.read_fuses.ensures)
 
 pub returns-in-9 : goal.returns-in-9

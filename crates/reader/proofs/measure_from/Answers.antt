@@ -5,6 +5,3 @@ use Rattle.reader.proofs.measure_from.Goals as goal
 
 pub returns-then-end-at : goal.returns-then-end-at
 returns-then-end-at c = no_kind _ (part_none c.args.session.now c.args.at (rw c.records_end-end.ensures at c.if-end-at.true))
-
-pub returns : goal.returns
-returns c = rw (← c.records_end-end.ensures) c.measure.ensures

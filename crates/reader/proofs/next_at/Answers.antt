@@ -6,6 +6,3 @@ use Rattle.reader.proofs.next_at.Goals as goal
 pub returns-then-end-at : goal.returns-then-end-at
 returns-then-end-at c =
     decode_refused _ _ (no_kind _ (part_none c.args.session.now c.args.at (rw c.records_end-end.ensures at c.if-end-at.true)))
-
-pub returns : goal.returns
-returns c = rw (← c.records_end-end.ensures) c.decode.ensures

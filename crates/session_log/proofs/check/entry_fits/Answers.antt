@@ -4,9 +4,6 @@ use Rattle.laws.specs.KindLaws.{known_within}
 use Rattle.session_log.proofs.LogCheckLaws.{fits_known, fits_ignored}
 use Rattle.session_log.proofs.check.entry_fits.Goals as goal
 
-pub length_fits-requires : goal.length_fits-requires
-length_fits-requires c = known_within _ (sym c.is_known.ensures ∙ c.if-is_known.true)
-
 pub returns-then-is_known : goal.returns-then-is_known
 returns-then-is_known c = search fits_known
 

@@ -4,12 +4,6 @@ use borrow.Author.Rules.{rules}
 use Rattle.session_log.proofs.LogCheckLaws.{walking_start, walking_next, walking_bad, walking_done}
 use Rattle.session_log.proofs.check.scan.Goals as goal
 
-pub loop-i-init : goal.loop-i-init
-loop-i-init c = walking_start _ _ _ _
-
-pub overflow_add-headers : goal.overflow_add-headers
-overflow_add-headers c = omega arith
-
 pub returns-then-header-eq0 : goal.returns-then-header-eq0
 returns-then-header-eq0 c =
     walking_bad _ _ _ _ _ _ _ _ _ c.loop-i.invariant c.loop-i-test.true _ _ c.read_header-header.ensures c.if-header-eq0.true
@@ -18,6 +12,3 @@ pub loop-i-preserved : goal.loop-i-preserved
 loop-i-preserved c =
     walking_next _ _ _ _ _ _ _ _ _ c.loop-i.invariant c.loop-i-test.true _ _ c.read_header-header.ensures _ _ c.if-header-eq0.false
     c.kept-from.ensures c.kept-to.ensures
-
-pub returns : goal.returns
-returns c = walking_done _ _ _ _ _ _ _ _ _ c.loop-i.invariant (search rules)

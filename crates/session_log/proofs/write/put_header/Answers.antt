@@ -8,26 +8,12 @@ use Rattle.model.specs.Log.{zoned}
 use Rattle.session_log.proofs.LogWriteLaws.{header_long, header_put, zone_put}
 use Rattle.session_log.proofs.write.put_header.Goals as goal
 
-pub put2-requires : goal.put2-requires
-put2-requires c = simp length-set (omega arith)
-
-pub bounds-log-at-then-names_zone : goal.bounds-log-at-then-names_zone
-bounds-log-at-then-names_zone c =
-    let l = header_long c.args.log.now _ c.args.at c.args.kind c.args.response c.args.zone c.put2.ensures in
-    omega arith
-
-pub shape_of-log-then-names_zone : goal.shape_of-log-then-names_zone
-shape_of-log-then-names_zone c = simp length-set (header_long c.args.log.now _ c.args.at c.args.kind c.args.response c.args.zone c.put2.ensures)
-
 pub returns-then-names_zone : goal.returns-then-names_zone
 returns-then-names_zone c =
     let named = sym c.names_zone.ensures ∙ c.if-names_zone.true in (
       zone_put c.args.log.now _ c.args.at c.args.kind c.args.response c.args.zone c.put2.ensures named,
       ap (λ n. c.args.at + n) (header_four zoned _ _ c.names_zone.ensures c.if-names_zone.true),
     )
-
-pub shape_of-log : goal.shape_of-log
-shape_of-log c = header_long c.args.log.now _ c.args.at c.args.kind c.args.response c.args.zone c.put2.ensures
 
 pub returns : goal.returns
 returns c =

@@ -1,9 +1,0 @@
--- Each return by its test.
-use borrow.Author.Tests.{eq-eqb, ne_eqb}
-use Rattle.state_bytes.proofs.tear_read.Goals as goal
-
-pub returns-then-flag-eq0 : goal.returns-then-flag-eq0
-returns-then-flag-eq0 c = rw (eq-eqb _ _ c.if-flag-eq0.true)
-
-pub returns : goal.returns
-returns c = rw (ne_eqb _ _ c.if-flag-eq0.false)
