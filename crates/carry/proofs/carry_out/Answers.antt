@@ -30,13 +30,13 @@ returns-in-1 c = rw c.in-1.is (performed _ _ _ _ _ _ _ c.power_cycle.ensures ref
 pub returns-in-13 : goal.returns-in-13
 unfolding record_of
 returns-in-13 c =
-    rw c.in-13.is (passed _ _ _ _ _ _ _ _ c.quiet.ensures.0 c.quiet.ensures.1 c.timed.ensures
+    rw c.in-13.is (passed _ _ _ _ _ _ _ _ c.quiet.ensures.state c.quiet.ensures.tries c.timed.ensures
     c.time_left.ensures)
 
 pub returns-in-14 : goal.returns-in-14
 unfolding record_of
 returns-in-14 c =
-    rw c.in-14.is (polled _ _ _ _ _ _ c.quiet-in-14.ensures.0 c.quiet-in-14.ensures.1 (rw c.in-14.is at
+    rw c.in-14.is (polled _ _ _ _ _ _ c.quiet-in-14.ensures.state c.quiet-in-14.ensures.tries (rw c.in-14.is at
     c.requires.2.room) c.busy_byte.ensures)
 
 pub returns-in-15 : goal.returns-in-15
@@ -45,4 +45,4 @@ returns-in-15 c = rw c.in-15.is (performed _ _ _ _ _ _ _ c.write_staged.ensures 
 
 pub returns-in-16 : goal.returns-in-16
 unfolding record_of
-returns-in-16 c = rw c.in-16.is (armed _ _ _ _ _ _ _ _ c.quiet-in-16.ensures.0 c.quiet-in-16.ensures.1 c.arming.ensures)
+returns-in-16 c = rw c.in-16.is (armed _ _ _ _ _ _ _ _ c.quiet-in-16.ensures.state c.quiet-in-16.ensures.tries c.arming.ensures)

@@ -64,18 +64,18 @@ present-requires c = (search rules, (rw c.in-10.is at c.requires.2.ranged).1)
 pub slice_bounds-judge-count : goal.slice_bounds-judge-count
 unfolding record_of
 slice_bounds-judge-count c =
-    let k = last_kind _ c.requires.0 c.requires.1 c.in_default.rest in
+    let k = last_kind _ c.requires.0 c.requires.1 (search rules) in
     let f = rw k at c.requires.2.ranged in omega (arith, between_some 2 c.args.end c.args.«record».now (omega (arith, f)))
 
 pub slice_bounds-judge-start : goal.slice_bounds-judge-start
 unfolding record_of
 slice_bounds-judge-start c =
-    let k = last_kind _ c.requires.0 c.requires.1 c.in_default.rest in
+    let k = last_kind _ c.requires.0 c.requires.1 (search rules) in
     let f = rw k at c.requires.2.ranged in omega (arith, between_some 2 c.args.end c.args.«record».now (omega (arith, f)))
 
 pub judge-requires : goal.judge-requires
 unfolding record_of
-judge-requires c = let k = last_kind _ c.requires.0 c.requires.1 c.in_default.rest in (search rules, rw k at c.requires.2.ranged)
+judge-requires c = let k = last_kind _ c.requires.0 c.requires.1 (search rules) in (search rules, rw k at c.requires.2.ranged)
 
 pub returns-in-2 : goal.returns-in-2
 unfolding record_of any.apply
@@ -133,4 +133,4 @@ returns-in-11 c = rw c.in-11.is (unanswered _ _ _ _ _ _ _ c.begin.ensures refl)
 
 pub returns-in_default : goal.returns-in_default
 unfolding record_of any.apply
-returns-in_default c = let k = last_kind _ c.requires.0 c.requires.1 c.in_default.rest in rw k (unanswered _ _ _ _ _ _ _ c.judge.ensures refl)
+returns-in_default c = let k = last_kind _ c.requires.0 c.requires.1 (search rules) in rw k (unanswered _ _ _ _ _ _ _ c.judge.ensures refl)

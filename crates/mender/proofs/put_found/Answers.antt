@@ -3,8 +3,5 @@ use mathlib.Core.Path.{refl, ◌∙◌}
 use Rattle.mender.proofs.MendingLaws.{told, none_put, found_put}
 use Rattle.mender.proofs.put_found.Goals as goal
 
-pub returns-then-found-eq0 : goal.returns-then-found-eq0
-returns-then-found-eq0 c = told c.args.session.now _ _ c.unmended.ensures ∙ none_put c.args.session.now _ _ c.if-found-eq0.true
-
 pub returns : goal.returns
 returns c = found_put c.args.session.now _ _ _ _ c.if-found-eq0.false c.requires refl c.put.ensures

@@ -9,9 +9,6 @@ use Rattle.record.specs.HeadLaws.{refused_of, whole_of}
 use Rattle.validate.proofs.SessionCheckLaws.{checking_start, checking_refused, kind_within, checking_next, checking_left, checking_done}
 use Rattle.validate.proofs.check_records.Goals as goal
 
-pub loop-left-init : goal.loop-left-init
-loop-left-init c = checking_start _ _ _
-
 pub returns-in-Refused : goal.returns-in-Refused
 returns-in-Refused c =
     checking_refused _ _ _ _ _ _ c.loop-left.invariant c.loop-left-test.true _
@@ -39,9 +36,3 @@ pub loop-left-preserved : goal.loop-left-preserved
 loop-left-preserved c =
     let k = whole_of _ _ (next_of c.args.session.now c.loop-left.at) (sym (ap measured_of c.in-Whole.is) ∙ c.measure_at.ensures) in
     checking_next _ _ _ _ _ _ c.loop-left.invariant c.loop-left-test.true k.0 _ _ _ (sym k.1) c.header_length.ensures k.2 (search rules)
-
-pub returns-then-at-records_end : goal.returns-then-at-records_end
-returns-then-at-records_end c = checking_left _ _ _ _ _ _ c.loop-left.invariant (search rules) _ c.records_end.ensures c.if-at-records_end.true
-
-pub returns : goal.returns
-returns c = checking_done _ _ _ _ _ _ c.loop-left.invariant (search rules) _ c.records_end.ensures c.if-at-records_end.false

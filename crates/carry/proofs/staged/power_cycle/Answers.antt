@@ -27,14 +27,8 @@ finishes c =
 
 pub returns-then-card : goal.returns-then-card
 returns-then-card c =
-    cycle_idle c.args.card.now (state_of c.args.state) _ _ _ c.if-card.true c.quiet.ensures.0 c.quiet.ensures.1
+    cycle_idle c.args.card.now (state_of c.args.state) _ _ _ c.if-card.true c.quiet.ensures.state c.quiet.ensures.tries
     c.powered_up.ensures
-
-pub overflow_cast-count : goal.overflow_cast-count
-overflow_cast-count c = let l = ready_length c.args.card.now (state_of c.args.state) c.requires.1 c.requires.0 c.if-card.false in search rules
-
-pub copy-requires : goal.copy-requires
-copy-requires c = let l = ready_length c.args.card.now (state_of c.args.state) c.requires.1 c.requires.0 c.if-card.false in search rules
 
 pub slice_bounds-finish-end : goal.slice_bounds-finish-end
 slice_bounds-finish-end c = let l = ready_length c.args.card.now (state_of c.args.state) c.requires.1 c.requires.0 c.if-card.false in search rules
@@ -48,9 +42,9 @@ finish-left-requires c =
 pub returns-then-left-eq0 : goal.returns-then-left-eq0
 returns-then-left-eq0 c =
     finishes c true (eq-eqb _ _ c.if-left-eq0.true) _ _
-    (c.quiet-then-left-eq0.ensures.0 ∙ c.power_lost.ensures) c.quiet-then-left-eq0.ensures.1
+    (c.quiet-then-left-eq0.ensures.state ∙ c.power_lost.ensures) c.quiet-then-left-eq0.ensures.tries
 
 pub returns : goal.returns
 returns c =
     finishes c false (ne_eqb _ _ c.if-left-eq0.false) _ _
-    (c.quiet-2.ensures.0 ∙ c.power_on.ensures) c.quiet-2.ensures.1
+    (c.quiet-2.ensures.state ∙ c.power_on.ensures) c.quiet-2.ensures.tries

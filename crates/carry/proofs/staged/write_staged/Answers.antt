@@ -1,4 +1,6 @@
 -- Forbidden; or the final values, and whether the fuel lasted.
+use mathlib.Core.Bool.{not}
+use Rattle.std.proofs.Common.{ap}
 use Prim.Native.Nat.{ℕ}
 use mathlib.Core.Bool.{Bool, true, false, cond}
 use mathlib.Core.Path.{◌≡◌, refl, ◌∙◌}
@@ -31,14 +33,14 @@ stages c =
 pub returns-then-not-may_stage : goal.returns-then-not-may_stage
 returns-then-not-may_stage c =
     stage_forbidden c.args.card.now (state_of c.args.state) c.args.address c.args.bytes.now _ _ _ _
-    (c.may_stage.ensures c.args.address) c.if-not-may_stage.true c.quiet.ensures.0 c.quiet.ensures.1 c.timed-writing.ensures
+    (c.may_stage.ensures c.args.address) (ap not c.if-not-may_stage.true) c.quiet.ensures.state c.quiet.ensures.tries c.timed-writing.ensures
 
 pub returns-then-left-eq0 : goal.returns-then-left-eq0
 returns-then-left-eq0 c =
     stages c true (eq-eqb _ _ c.if-left-eq0.true) _ _
-    (c.quiet-then-left-eq0.ensures.0 ∙ c.power_lost.ensures) c.quiet-then-left-eq0.ensures.1
+    (c.quiet-then-left-eq0.ensures.state ∙ c.power_lost.ensures) c.quiet-then-left-eq0.ensures.tries
 
 pub returns : goal.returns
 returns c =
     stages c false (ne_eqb _ _ c.if-left-eq0.false) _ _
-    (c.quiet-2.ensures.0 ∙ c.arming.ensures ∙ (λ j. rearmed (c.timed-writing.ensures j) untorn)) c.quiet-2.ensures.1
+    (c.quiet-2.ensures.state ∙ c.arming.ensures ∙ (λ j. rearmed (c.timed-writing.ensures j) untorn)) c.quiet-2.ensures.tries

@@ -12,21 +12,6 @@ use Rattle.mender.proofs.search.smallest_start.Goals as goal
 abbrev entry : tie.After-known-told invariant-loop decreases-loop invariant-starts decreases-starts → tie.Start invariant-loop decreases-loop invariant-starts decreases-starts
 entry c = c.before.before.before.before.before.before.before.before.before.before.before
 
-pub starts-init : goal.starts-init
-starts-init c = trying_start _
-
-pub loop-count-init : goal.loop-count-init
-loop-count-init c = reading_start _ _ (omega (arith, c.starts-test.true, c.records_end-end.ensures))
-
-pub slice_bounds-measure-count : goal.slice_bounds-measure-count
-slice_bounds-measure-count c = omega (arith, c.loop-count.invariant.within, c.records_end-end.ensures)
-
-pub slice_bounds-measure-start : goal.slice_bounds-measure-start
-slice_bounds-measure-start c = omega (arith, c.loop-count.invariant.within, c.records_end-end.ensures)
-
-pub slice_bounds-measure-end : goal.slice_bounds-measure-end
-slice_bounds-measure-end c = omega (arith, c.records_end-end.ensures)
-
 pub overflow_add-at : goal.overflow_add-at
 overflow_add-at c =
     let k =

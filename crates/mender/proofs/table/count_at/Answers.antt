@@ -27,12 +27,6 @@ returns-then-next-end c =
     let k = next c in
     tabled_last _ _ _ k.instruction _ k.next (c.if-next-end.true ∙ (entry c).requires.1)
 
-pub offset_bounds-counts-next : goal.offset_bounds-counts-next
-offset_bounds-counts-next c = omega arith
-
-pub bounds-counts-next : goal.bounds-counts-next
-bounds-counts-next c = let p = (entry c).requires in omega (arith, p.2)
-
 pub returns-in-Refused : goal.returns-in-Refused
 returns-in-Refused c =
     tabled_refused _ _ _ _

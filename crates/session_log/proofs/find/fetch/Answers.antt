@@ -1,23 +1,11 @@
 -- Each return by the tests that led to it.
 use mathlib.Core.Bool.{not}
+use mathlib.Core.Bool.{not}
 use Rattle.std.proofs.Common.{ap}
 use mathlib.Core.Path.{◌∙◌}
 use native.Mathlib.Omega.{arith}
 use Rattle.session_log.proofs.FindLaws.{no_trailer, trailer_is, Behind, behind, bad_entries, no_answer, response_within, answer_at}
 use Rattle.session_log.proofs.find.fetch.Goals as goal
-
-abbrev entry : tie.After-scan → tie.Start
-entry c = c.before.before.before.before.before.before
-
--- behind the walk over the entries
-walked : (c : tie.After-scan)
-    → Behind (entry c).args.log.now (entry c).args.number c.before.before.get2.result c.scan.result.ok c.scan.result.headers
-    c.scan.result.from c.scan.result.to
-walked c =
-    let counted = c.before.before in
-    let trailed = counted.before in
-    behind _ _ _ _ _ _ _ _ _ trailed.before.trailer-ok.ensures trailed.if1.false counted.get2.ensures.0 c.before.get4.ensures.0
-    c.scan.ensures
 
 pub returns-then-not-trailer_ok : goal.returns-then-not-trailer_ok
 returns-then-not-trailer_ok c = c.refused.ensures ∙ no_trailer _ _ _ c.trailer_ok.ensures (ap not c.if-not-trailer_ok.true)
@@ -40,12 +28,12 @@ scan-scanned-requires c =
     omega arith
 
 pub returns-then-not-scanned : goal.returns-then-not-scanned
-returns-then-not-scanned c = c.refused-then-not-scanned.ensures ∙ bad_entries _ _ _ _ _ _ _ (walked c) (ap not c.if-not-scanned.true)
+returns-then-not-scanned c = c.refused-then-not-scanned.ensures ∙ bad_entries _ _ _ _ _ _ _ (behind _ _ _ _ _ _ _ _ _ c.trailer_ok.ensures (ap not c.if-not-trailer_ok.false) c.get2-count.ensures.0 c.get4.ensures.0 c.scan-scanned.ensures) c.if-not-scanned.true
 
 pub returns-then-count-number : goal.returns-then-count-number
 returns-then-count-number c =
     c.refused-then-count-number.ensures
-    ∙ no_answer _ _ _ _ _ _ _ (walked c) (ap not c.if-not-scanned.false) c.if-count-number.true
+    ∙ no_answer _ _ _ _ _ _ _ (behind _ _ _ _ _ _ _ _ _ c.trailer_ok.ensures (ap not c.if-not-trailer_ok.false) c.get2-count.ensures.0 c.get4.ensures.0 c.scan-scanned.ensures) c.if-not-scanned.false c.if-count-number.true
 
 pub returns : goal.returns
-returns c = answer_at _ _ _ _ _ _ _ (walked c) (ap not c.if-not-scanned.false) c.if-count-number.false
+returns c = answer_at _ _ _ _ _ _ _ (behind _ _ _ _ _ _ _ _ _ c.trailer_ok.ensures (ap not c.if-not-trailer_ok.false) c.get2-count.ensures.0 c.get4.ensures.0 c.scan-scanned.ensures) c.if-not-scanned.false c.if-count-number.false
