@@ -6,15 +6,10 @@ use Rattle.session.proofs.RunLaws.{run_refused, no_room, log_ready, run_logged}
 use Rattle.session.proofs.run.Goals as goal
 
 pub returns-then-room-lt-LEAST_LOG : goal.returns-then-room-lt-LEAST_LOG
-returns-then-room-lt-LEAST_LOG c = no_room _ _ _ (sym (ap checked_of c.in-Entries.is) ∙ c.check.ensures) ( omega arith)
+returns-then-room-lt-LEAST_LOG c = no_room _ _ _ (sym (ap checked_of c.in-Entries.is) ∙ c.check.ensures) (omega arith)
 
 pub returns-then-room-entries : goal.returns-then-room-entries
-returns-then-room-entries c = no_room _ _ _ (sym (ap checked_of c.in-Entries.is) ∙ c.check.ensures) (  omega arith)
-
-pub write_log-requires : goal.write_log-requires
-write_log-requires c =
-    log_ready _ _ _ (sym (ap checked_of c.in-Entries.is) ∙ c.check.ensures)
-    (  omega arith)
+returns-then-room-entries c = no_room _ _ _ (sym (ap checked_of c.in-Entries.is) ∙ c.check.ensures) (omega arith)
 
 pub returns-in-Refused : goal.returns-in-Refused
 returns-in-Refused c = run_refused _ _ _ (sym (ap checked_of c.in-Refused.is) ∙ c.check.ensures)

@@ -5,9 +5,6 @@ use Rattle.session.proofs.SessionWriteLaws.{entry_known, header_room, response_r
 use borrow.Author.Rules.{rules}
 use Rattle.session.proofs.write.write_entry.Goals as goal
 
-pub is_halted-halted-requires : goal.is_halted-halted-requires
-is_halted-halted-requires c = c.requires.1.good.fit.long
-
 pub overflow_add-head : goal.overflow_add-head
 overflow_add-head c = let k = entry_known _ _ _ _ c.requires.1 _ c.requires.0 in omega arith
 
@@ -34,10 +31,6 @@ slice_bounds-carry_out-count c =
 
 pub slice_bounds-carry_out-start : goal.slice_bounds-carry_out-start
 slice_bounds-carry_out-start c =
-    let w = response_room _ _ _ _ c.requires.1 _ c.requires.0 _ _ c.answer_length-response.ensures c.put_header-from.ensures.1 in search rules
-
-pub slice_bounds-carry_out-end : goal.slice_bounds-carry_out-end
-slice_bounds-carry_out-end c =
     let w = response_room _ _ _ _ c.requires.1 _ c.requires.0 _ _ c.answer_length-response.ensures c.put_header-from.ensures.1 in search rules
 
 pub carry_out-done-requires : goal.carry_out-done-requires
