@@ -1,25 +1,21 @@
 // A session from standard input, mended, on standard output. A refusal goes to standard error, and so does whatever else went wrong.
 #![tactic(auto)]
 
-use io::{read_full, write_all};
-use libc::{STDIN_FILENO, STDOUT_FILENO};
+use input::read_full;
 use mender::mend;
 use record::refusal::Outcome;
-use refusal_text::print_refusal;
+use refusal_text::{print_refusal, write_whole};
 use sizes::INPUT;
+use std::io;
 
-fn main() {
+fn main(rt: HostRuntime) -> io::Result<()> {
     let mut input = [0u8; INPUT];
-    let length = read_full(STDIN_FILENO, &mut input);
+    let length = read_full(&mut rt.stdin(), &mut input)?;
     let session = &mut input[..length];
     let mended = mend(session);
     let outcome = mended.outcome;
     match outcome {
-        Outcome::Refused(why) => print_refusal(b"mend", why),
-        Outcome::Accepted => {
-            if !write_all(STDOUT_FILENO, session) {
-                os::fail(b"standard output");
-            }
-        }
+        Outcome::Refused(why) => print_refusal(&mut rt.stderr(), b"mend", why),
+        Outcome::Accepted => write_whole(&mut rt.stdout(), &mut rt.stderr(), session),
     }
 }

@@ -5,16 +5,20 @@ ghost use Rattle.listing.specs.Listing.{PrintedText};
 ghost use Rattle.box_listing.specs.BoxListing.{printed_for};
 
 use box_listing::print_boxed;
-use check::same;
-use io::{read_full, write_all};
+use input::read_full;
 use listing::print;
 use sizes::{INPUT, TEXT_SPACE};
+use std::env::Env;
+use std::io;
+use std::io::Write;
 
 // Whether the first argument is --box.
-fn is_boxed() -> bool {
+fn is_boxed(rt: &impl Env) -> bool {
     let mut argument = [0u8; 5];
-    let length = os::arg(1, &mut argument);
-    same(&argument[..length], b"--box")
+    match rt.arg(1, &mut argument) {
+        Ok(length) => argument[..length] == b"--box"[..],
+        Err(_) => false,
+    }
 }
 
 // At the front of the text space, whole: what is printed of a session, for the box or for an exam machine.
@@ -27,11 +31,11 @@ fn print_for(boxed: bool, session: &[u8], text: &mut [u8; TEXT_SPACE]) -> usize
     print(session, text)
 }
 
-fn main() {
-    let boxed = is_boxed();
+fn main(rt: HostRuntime) -> io::Result<()> {
+    let boxed = is_boxed(&rt);
     let mut input = [0u8; INPUT];
-    let read = read_full(0, &mut input);
+    let read = read_full(&mut rt.stdin(), &mut input)?;
     let mut text = [0u8; TEXT_SPACE];
     let written = print_for(boxed, &input[..read], &mut text);
-    write_all(1, &text[..written]);
+    rt.stdout().write_all(&text[..written])
 }

@@ -2,48 +2,70 @@
 // digits, and the title, which may be left out. A refusal goes to standard error, and so does whatever else went wrong.
 #![tactic(auto)]
 
-ghost use Rattle.io.specs.Counts.{IsPrefixLen};
+ghost use Rattle.std.specs.Prelude.{◌≡◌, ◌≤◌, length, take};
 
 use crate::count::count_of;
-use io::{read_full, write_all};
-use libc::{ENAMETOOLONG, STDOUT_FILENO};
+use input::read_full;
 use record::refusal::Outcome;
-use refusal_text::print_refusal;
+use refusal_text::{print_refusal, write_whole};
 use sizes::{CARD, GREATEST_SESSION, INPUT};
+use std::env::{Env, FillError};
+use std::fs::File;
+use std::io;
+use std::io::{Read, Write};
 use writer::write_session;
 
 mod count;
 
-// The file that an argument names, open for reading; or a negative number, with the reason on standard error.
-fn open_named(argument: usize) -> i32 {
-    let mut path = io::buffer();
-    let length = os::arg(argument, &mut path);
-    let file = os::open_read(&path[..length]);
-    if file < 0 {
-        os::fail(&path[..length]);
+// The file that an argument names, open for reading; or none, with the reason on standard error.
+fn open_named(rt: &HostRuntime, argument: usize) -> io::Result<Option<File>> {
+    let mut path = [0u8; 4096];
+    let length = match rt.arg(argument, &mut path) {
+        Ok(length) => length,
+        Err(_) => 0,
+    };
+    let bytes = &path[..length];
+    let name = match str::from_utf8(bytes) {
+        Ok(name) => name,
+        Err(why) => {
+            rt.stderr().write_all(bytes)?;
+            eprintln!(rt; ": {why}")?;
+            return Ok(None);
+        }
+    };
+    match File::open(rt, name) {
+        Ok(file) => Ok(Some(file)),
+        Err(why) => {
+            eprintln!(rt; "{name}: {why}")?;
+            Ok(None)
+        }
     }
-    file
 }
 
 // The title, at the front of a space that is longer than any session; one that has no room there counts as the whole space.
-fn read_title(space: &mut [u8]) -> usize
-    ensures { IsPrefixLen result space.new }
+fn read_title(rt: &impl Env, space: &mut [u8]) -> usize
+    ensures { (result ≤ length space.new) × (result ≡ length (take result space.new)) }
 {
-    let length = os::arg(4, space);
-    if os::errno() == ENAMETOOLONG {
-        return space.len();
+    match rt.arg(4, space) {
+        Ok(length) => length,
+        Err(FillError::TooLong) => space.len(),
+        Err(FillError::NotPresent) => 0,
     }
-    length
 }
 
 // Both files are read with room for a byte more than is ever accepted, so that a longer one is seen to be longer.
-fn write_from(card_file: i32, records_file: i32, count: usize) {
+fn write_from<R: Read>(
+    rt: &HostRuntime,
+    card_file: &mut R,
+    records_file: &mut R,
+    count: usize,
+) -> io::Result<()> {
     let mut card = [0u8; CARD + 1];
-    let card_length = read_full(card_file, &mut card);
+    let card_length = read_full(card_file, &mut card)?;
     let mut title = [0u8; INPUT];
-    let title_length = read_title(&mut title);
+    let title_length = read_title(rt, &mut title);
     let mut records = [0u8; INPUT];
-    let records_length = read_full(records_file, &mut records);
+    let records_length = read_full(records_file, &mut records)?;
     let mut session = [0u8; GREATEST_SESSION];
     let written = write_session(
         &card[..card_length],
@@ -55,29 +77,21 @@ fn write_from(card_file: i32, records_file: i32, count: usize) {
     let size = written.size;
     let outcome = written.outcome;
     match outcome {
-        Outcome::Refused(why) => print_refusal(b"write-session", why),
-        Outcome::Accepted => {
-            if !write_all(STDOUT_FILENO, &session[..size]) {
-                os::fail(b"standard output");
-            }
-        }
+        Outcome::Refused(why) => print_refusal(&mut rt.stderr(), b"write-session", why),
+        Outcome::Accepted => write_whole(&mut rt.stdout(), &mut rt.stderr(), &session[..size]),
     }
 }
 
-fn main() {
-    let card_file = open_named(1);
-    let records_file = open_named(2);
-    if card_file < 0 {
-        return;
-    }
-    if records_file < 0 {
-        return;
-    }
+fn main(rt: HostRuntime) -> io::Result<()> {
+    let card_file = open_named(&rt, 1)?;
+    let records_file = open_named(&rt, 2)?;
     let mut digits = [0u8; 20];
-    let length = os::arg(3, &mut digits);
-    if os::errno() != 0 {
-        os::fail(b"count");
-        return;
+    match (card_file, records_file) {
+        (Some(mut card), Some(mut records)) => match rt.arg(3, &mut digits) {
+            Ok(length) => write_from(&rt, &mut card, &mut records, count_of(&digits[..length])),
+            Err(FillError::TooLong) => eprintln!(rt; "count: File name too long"),
+            Err(FillError::NotPresent) => eprintln!(rt; "count: Invalid argument"),
+        },
+        _ => Ok(()),
     }
-    write_from(card_file, records_file, count_of(&digits[..length]));
 }

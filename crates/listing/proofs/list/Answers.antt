@@ -16,16 +16,10 @@ slice_bounds-put_log-end-in-Accepted c =
 pub put_log-requires : goal.put_log-requires
 put_log-requires c = log_ready _ _ _ c.run-ran.ensures (λ i. (c.type_inv.session i).fits) (ap outcome_number c.in-Accepted.is)
 
-pub shape_of-text-in-Refused : goal.shape_of-text-in-Refused
-shape_of-text-in-Refused c = put_length _ _ _ _ _ c.put_refusal.ensures
-
 pub returns-in-Refused : goal.returns-in-Refused
 returns-in-Refused c =
     list_put _ _ _ c.run-ran.ensures _ _ _ _ _ (refused_listing _ _ _ c.run-ran.ensures c.in-Refused.why (ap outcome_number c.in-Refused.is))
     c.put_refusal.ensures c.least.ensures
-
-pub shape_of-text-in-Accepted : goal.shape_of-text-in-Accepted
-shape_of-text-in-Accepted c = put_length _ _ _ _ _ c.put_log.ensures
 
 pub returns-in-Accepted : goal.returns-in-Accepted
 returns-in-Accepted c =

@@ -4,9 +4,6 @@ use Rattle.text.proofs.PutLaws.{put_length}
 use Rattle.listing.proofs.LineLaws.{lining_start, header_within, response_begins, entry_ends, line_fits, lining_next, lining_done}
 use Rattle.listing.proofs.lines.put_entries.Goals as goal
 
-pub loop-i-init : goal.loop-i-init
-loop-i-init c = lining_start _ _ _ _ c.requires
-
 pub bounds-log-at : goal.bounds-log-at
 bounds-log-at c = let h = header_within _ _ _ _ _ _ _ _ c.loop-i.invariant c.loop-i-test.true in search rules
 
@@ -23,16 +20,6 @@ pub overflow_add-next : goal.overflow_add-next
 overflow_add-next c =
     let h = entry_ends _ _ _ _ _ _ _ _ c.loop-i.invariant c.loop-i-test.true _ _ c.header_length.ensures c.get2.ensures.0 in search rules
 
-pub slice_bounds-put_line-count : goal.slice_bounds-put_line-count
-slice_bounds-put_line-count c =
-    let h = entry_ends _ _ _ _ _ _ _ _ c.loop-i.invariant c.loop-i-test.true _ _ c.header_length.ensures c.get2.ensures.0 in
-    search rules
-
-pub slice_bounds-put_line-start : goal.slice_bounds-put_line-start
-slice_bounds-put_line-start c =
-    let h = entry_ends _ _ _ _ _ _ _ _ c.loop-i.invariant c.loop-i-test.true _ _ c.header_length.ensures c.get2.ensures.0 in
-    search rules
-
 pub slice_bounds-put_line-end : goal.slice_bounds-put_line-end
 slice_bounds-put_line-end c =
     let h = entry_ends _ _ _ _ _ _ _ _ c.loop-i.invariant c.loop-i-test.true _ _ c.header_length.ensures c.get2.ensures.0 in
@@ -44,9 +31,3 @@ put_line-to-requires c = line_fits _ _ _ _ _ _ _ _ c.loop-i.invariant c.loop-i-t
 pub loop-i-preserved : goal.loop-i-preserved
 loop-i-preserved c =
     lining_next _ _ _ _ _ _ _ _ c.loop-i.invariant c.loop-i-test.true _ _ c.header_length.ensures c.get2.ensures.0 _ _ c.put_line-to.ensures
-
-pub shape_of-text : goal.shape_of-text
-shape_of-text c = put_length _ _ _ _ _ c.loop-i.invariant.front
-
-pub returns : goal.returns
-returns c = lining_done _ _ _ _ _ _ _ _ c.loop-i.invariant (search rules)

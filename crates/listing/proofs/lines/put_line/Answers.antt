@@ -4,29 +4,11 @@ use Rattle.text.specs.TextLaws.{hexes_length}
 use Rattle.listing.proofs.LineLaws.{line_is, line_put}
 use Rattle.listing.proofs.lines.put_line.Goals as goal
 
-pub put_decimal-second-requires : goal.put_decimal-second-requires
-put_decimal-second-requires c = let l = line_is c.args.number c.args.kind c.args.response.now in omega arith
-
-pub put_hex-third-requires : goal.put_hex-third-requires
-put_hex-third-requires c =
-    let l = line_is c.args.number c.args.kind c.args.response.now in
-    let d = c.put_decimal-second.ensures.past in
-    omega arith
-
 pub put_hexes-last-requires : goal.put_hexes-last-requires
 put_hexes-last-requires c =
     let l = line_is c.args.number c.args.kind c.args.response.now in
     let d = c.put_decimal-second.ensures.past in
     let h = c.put_hex-third.ensures.past in
-    omega arith
-
-pub put-requires : goal.put-requires
-put-requires c =
-    let l = line_is c.args.number c.args.kind c.args.response.now in
-    let d = c.put_decimal-second.ensures.past in
-    let h = c.put_hex-third.ensures.past in
-    let x = c.put_hexes-last.ensures.past in
-    let y = hexes_length c.args.response.now in
     omega arith
 
 pub returns : goal.returns

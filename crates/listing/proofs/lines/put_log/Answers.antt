@@ -22,13 +22,6 @@ put_entries-next-requires c = entries_ready _ c.requires _ _ c.get2.ensures.0 c.
 pub slice_bounds-put_card-end : goal.slice_bounds-put_card-end
 slice_bounds-put_card-end c = card_within _ c.requires _ _ c.get2.ensures.0 c.get4-start.ensures.0
 
-pub put_card-requires : goal.put_card-requires
-put_card-requires c =
-    (
-      card_long _ c.requires _ _ c.get2.ensures.0 c.get4-start.ensures.0,
-      entries_room _ c.requires _ _ c.get2.ensures.0 c.get4-start.ensures.0 _ _ _ c.put_entries-next.ensures,
-    )
-
 pub returns : goal.returns
 returns c =
     log_put _ c.requires _ _ c.get2.ensures.0 c.get4-start.ensures.0 _ _ _ _ _ c.put_entries-next.ensures c.put_card.ensures
