@@ -1,7 +1,7 @@
 // Many sessions from standard input, each behind its length in four bytes, and their listings one after another.
 #![tactic(auto)]
 
-ghost use Rattle.std.specs.Prelude.{◌≤◌, length};
+ghost use Rattle.std.specs.Prelude.{◌≤◌, ◌<◌, ◌^◌, length};
 
 use input::read_full;
 use listing::print;
@@ -9,7 +9,7 @@ use record::number::get4;
 use sizes::TEXT_SPACE;
 use slices::least;
 use std::io;
-use std::io::Write;
+use std::io::{Read, Write};
 
 // helper: the session between two places.
 fn print_one<W: Write>(out: &mut W, input: &[u8], from: usize, to: usize) -> io::Result<()>
@@ -33,8 +33,16 @@ fn print_each<W: Write>(out: &mut W, input: &[u8]) -> io::Result<()> {
     Ok(())
 }
 
+// The sessions on a stream, of which as many bytes are read as the space holds. How many that are is a parameter: a proof over so long an
+// array would go through it byte by byte.
+fn print_read<const SPACE: usize, R: Read, W: Write>(from: &mut R, out: &mut W) -> io::Result<()>
+    requires { SPACE < 2 ^ 63 }
+{
+    let mut input = [0u8; SPACE];
+    let read = read_full(from, &mut input)?;
+    print_each(out, &input[..read])
+}
+
 fn main(rt: HostRuntime) -> io::Result<()> {
-    let mut input = [0u8; 524288];
-    let read = read_full(&mut rt.stdin(), &mut input)?;
-    print_each(&mut rt.stdout(), &input[..read])
+    print_read::<524288, _, _>(&mut rt.stdin(), &mut rt.stdout())
 }

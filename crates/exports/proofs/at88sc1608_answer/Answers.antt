@@ -12,9 +12,3 @@ answer_number-requires c =
 
 pub answer_number-requires-in-At : goal.answer_number-requires-in-At
 answer_number-requires-in-At c = answer_fits _ _ _ c.fetch-fetched.ensures _ (ap found_of c.in-At.is) _ _ refl
-
-pub returns-in-Refused : goal.returns-in-Refused
-returns-in-Refused c = answer_told _ _ _ c.fetch-fetched.ensures _ (ap found_of c.in-Refused.is) _ c.answer_number.ensures
-
-pub returns-in-At : goal.returns-in-At
-returns-in-At c = answer_told _ _ _ c.fetch-fetched.ensures _ (ap found_of c.in-At.is) _ c.answer_number-in-At.ensures

@@ -8,7 +8,3 @@ write_state-requires c = accepted_long _ _ _ _ _ c.read_state-before.ensures _ c
 
 pub command_number-requires : goal.command_number-requires
 command_number-requires c = response_fits _ _ _ _ _ c.read_state-before.ensures _ c.command-reply.ensures (λ i. omega (arith, c.type_inv.record i))
-
-pub returns : goal.returns
-returns c =
-    command_told _ _ _ _ _ c.read_state-before.ensures _ c.command-reply.ensures _ _ c.command_number.ensures c.write_state.ensures

@@ -7,6 +7,3 @@ pub mend_number-requires : goal.mend_number-requires
 mend_number-requires c =
     let f = mending_fits _ _ c.mend_by_search-searched.ensures in
     (omega (arith, f.0, f.1), omega (arith, f.0, f.1))
-
-pub returns : goal.returns
-returns c = mending_told _ _ c.mend_by_search-searched.ensures _ c.mend_number.ensures

@@ -5,6 +5,3 @@ use Rattle.exports.proofs.at88sc1608_run.Goals as goal
 
 pub result_number-requires : goal.result_number-requires
 result_number-requires c = log_fits _ _ _ c.run-ran.ensures (λ i. omega (arith, c.type_inv.session i))
-
-pub returns : goal.returns
-returns c = run_told _ _ _ c.run-ran.ensures _ c.result_number.ensures

@@ -4,6 +4,3 @@ use Rattle.exports.proofs.at88sc1608_write_session.Goals as goal
 
 pub result_number-requires : goal.result_number-requires
 result_number-requires c = session_fits _ _ _ c.write_session-written.ensures
-
-pub returns : goal.returns
-returns c = writing_told _ _ _ c.write_session-written.ensures _ c.result_number.ensures
