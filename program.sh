@@ -16,23 +16,29 @@ readable() {
     [ -r "$1" ] || fail "cannot be read: $1"
 }
 
-# Proves and builds the program on first use, and again when the sources have changed; rt tells how far it is.
+# Proves and builds the program on first use, and again when the sources have changed.
 build() {
-    binary=$top/target/bin/$program
-    if [ ! -x "$binary" ] || [ -n "$(find "$top/crates" "$top/crates.txt" -newer "$binary" | head -n 1)" ]; then
+    binary=$top/crates/$program/out/$program
+    if [ ! -x "$binary" ] || [ -n "$(find "$top/crates" "$top/crates.txt" -name out -prune -o -type f -newer "$binary" -print | head -n 1)" ]; then
         PATH=$PATH:/opt/rattle/bin
         command -v rt >/dev/null || fail "the Rattle kit is not installed: no rt on the path or in /opt/rattle/bin"
         echo "$name: proving and building the program; this takes some minutes" >&2
-        (cd "$top" && rt check "$program") </dev/null >&2 || fail "the program was not proved"
+        log=$(mktemp)
+        (cd "$top/crates/$program" && rt run) </dev/null >"$log" 2>&1 || {
+            tail -n 20 "$log" >&2
+            rm "$log"
+            fail "the program was not proved"
+        }
+        rm "$log"
         touch "$binary"
     fi
 }
 
-# Runs a program. It has no status of its own to end with, so what it says on standard error tells; its output goes out only when it is whole.
+# Runs a program. A refusal has no status of its own, so what it says on standard error tells; its output goes out only when it is whole.
 run_whole() {
     work=$(mktemp -d)
     trap 'rm -rf "$work"' EXIT
-    "$@" >"$work/out" 2>"$work/err"
+    "$@" >"$work/out" 2>"$work/err" || :
     if [ -s "$work/err" ]; then
         cat "$work/err" >&2
         exit 1

@@ -70,7 +70,7 @@ misused --box --no-such-option least.session
 called 2 --box no-such-file
 [ ! -s out ] || fail "a missing file: something on standard output"
 
-program=$top/target/bin/simulate
+program=$top/crates/simulate/out/simulate
 "$program" --box <box-record-more.session | cmp - box-record-more.box.txt >&2 || fail "the program with --box differs"
 for argument in -x --bo --boxx -box box --BOX ' --box' ''; do
     "$program" "$argument" <box-record-more.session | cmp - box-record-more.txt >&2 || fail "the program with the argument '$argument' differs"

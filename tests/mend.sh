@@ -94,7 +94,7 @@ cmp out "$top/examples/written.session" >&2 || fail "a session that has lost not
 
 # A session that cannot go out whole is no success, nor one that the program cannot write.
 "$top/mend" two >/dev/full 2>err && fail "a full device: status 0"
-"$top/target/bin/mend" <two >/dev/full 2>err
+"$top/crates/mend/out/mend" <two >/dev/full 2>err
 grep -q '^standard output: ' err || fail "a full device: the program says '$(cat err)'"
 
 options

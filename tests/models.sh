@@ -40,10 +40,11 @@ copy() { # ROOM CRATE TABLE
 
 # Whether the log says that CRATE itself is refused, so that all it needs is proved, and of a table's crate nothing but that table.
 refused() { # LOG CRATE TABLE
-    grep -q "^rt: $2 NOT PROVED (exit 1" "$1" || return 1
+    [ "$(grep -A 1 "^crate $2: " "$1" | tail -n 1)" = logic=not-proved ] || return 1
+    [ "$(grep -c '^logic=not-proved' "$1")" -eq 1 ] || return 1
+    grep -q '^\./[^ ]*: error' "$1" || return 1
     [ -n "$3" ] || return 0
-    grep -q "crates/$2/specs/$3\.antt:[0-9:]* error" "$1" || return 1
-    ! grep -o 'crates/[^ ]*: error' "$1" | grep -qv "^crates/$2/specs/$3\.antt:"
+    ! grep -o '^[^ ]*: error' "$1" | grep -qv "^\./specs/$3\.antt:"
 }
 
 try() { # EDIT
@@ -61,9 +62,9 @@ try() { # EDIT
         'new: '*) replace "$file" "$old" "${line#new: }" ;;
         esac
     done <"$1"
-    (cd "$room" && rt check "$by") >"$room/log" 2>&1 || true
+    (cd "$room/crates/$by" && rt check) >"$room/log" 2>&1 || true
     if refused "$room/log" "$by" "$table"; then
-        echo "models: $name: refused, as it must be (first at $(grep -m 1 -o "crates/$by/[^ ]*: error: .[^\`]*" "$room/log" | sed 's/: error: `/ /'))"
+        echo "models: $name: refused, as it must be (first at crates/$by/$(grep -m 1 -o '^\./[^ ]*: error: .[^`]*' "$room/log" | sed 's/^\.\///; s/: error: `/ /'))"
     else
         echo "models: $name: NOT REFUSED by $by${table:+, table $table}"
         tail -n 5 "$room/log"

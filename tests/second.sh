@@ -10,7 +10,7 @@ cd "$top/second"
 programs=$top/target/second/release
 cargo build --release --offline --quiet --bin sessions --bin listings --bin write-examples &
 building=$!
-(cd "$top" && rt staticlib exports) >"$work/log" 2>&1 || { tail -n 20 "$work/log" >&2; exit 1; }
+"$top/tests/staticlib.sh" >"$work/log" 2>&1 || { tail -n 20 "$work/log" >&2; exit 1; }
 wait "$building"
 cargo test --release --offline --color never --lib --test '*' >"$work/log" 2>&1 || { cat "$work/log" >&2; exit 1; }
 # A line for each file of tests: where it is and how its tests ended.

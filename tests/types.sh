@@ -2,22 +2,21 @@
 # The compiler rejects a password set where a zone is asked and a zone where a password set is asked, as an argument and as a
 # result. A type error never reaches the prover, so this is no must-fail edit: a scratch crate over `access` is checked, once with
 # the right types and then with one wrong type at a time.
-# It takes the libraries that `rt check` or `rt ci` left in target/.
+# It takes what `rt check` left in the crates' out/.
 set -euo pipefail
 top=$(cd "$(dirname "${BASH_SOURCE[0]}")/.." && pwd)
 work=$(mktemp -d)
 trap 'rm -rf "$work"' EXIT
-mkdir -p "$work/crates/scratch/src" "$work/target/rlib" "$work/target/stamp"
+mkdir -p "$work/crates/scratch/src"
 needed="$(sed -n 's/^access: *//p' "$top/crates.txt") access"
 for crate in $needed; do
     cp -R "$top/crates/$crate" "$work/crates/"
-    for part in "rlib/$crate.rlib" "stamp/$crate"; do
-        [ ! -e "$top/target/$part" ] || cp -R "$top/target/$part" "$work/target/$part"
-    done
     grep "^$crate:" "$top/crates.txt" >>"$work/crates.txt"
 done
 echo "scratch: $needed" >>"$work/crates.txt"
 cat >"$work/right" <<'END'
+#![tactic(auto)]
+
 use access::volatile::{PwSet, Volatile, Zone, selecting};
 
 fn number(set: PwSet) -> u8 {
@@ -50,7 +49,7 @@ fail() {
 
 check() { # EDIT: the scratch crate with this edit of its right types
     sed "$1" "$work/right" >"$work/crates/scratch/src/lib.rt"
-    (cd "$work" && rt check scratch) >"$work/log" 2>&1
+    (cd "$work/crates/scratch" && rt check) >"$work/log" 2>&1
 }
 
 refused() { # FUNCTION RIGHT WRONG ERROR: the function with another type in its header

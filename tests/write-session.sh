@@ -65,7 +65,7 @@ cmp out "$top/examples/written.session" || fail "the example is not as stored"
 
 # A session that cannot go out whole is no success, nor one that the program cannot write.
 "$top/write-session" card two 2 >/dev/full 2>err && fail "a full device: status 0"
-"$top/target/bin/write_session" card two 2 >/dev/full 2>err
+"$top/crates/write_session/out/write_session" card two 2 >/dev/full 2>err
 grep -q '^standard output: ' err || fail "a full device: the program says '$(cat err)'"
 
 options

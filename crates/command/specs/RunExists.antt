@@ -13,7 +13,6 @@ use Rattle.access.specs.declared.volatile.Volatile.{Volatile}
 use Rattle.staging.specs.Fuel.{tear_of}
 use Rattle.busy.specs.TimedState.{state_of}
 use Rattle.busy.specs.declared.State.{State}
-use Rattle.command.specs.declared.Reply.{Reply}
 use Rattle.record.specs.RefusalNumber.{outcome_number}
 use Rattle.command.specs.Reply.{called_of}
 use Rattle.command.specs.Injective.{active_from, authentication_from, tear_from, outcome_from}

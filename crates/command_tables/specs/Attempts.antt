@@ -1,5 +1,5 @@
 -- The tries left that single commands hand out ("Tries left, shown to the candidate"), computed on whole cards: one table, one theorem.
-use Rattle.std.specs.Prelude.{ℕ, ◌+◌, List, [], ◌∷◌, ◌++◌, map, ◌≡◌, refl, set, replicate}
+use Rattle.std.specs.Prelude.{ℕ, List, [], ◌∷◌, ◌++◌, map, ◌≡◌, refl, set, replicate}
 use Rattle.model.specs.Lists.{at}
 use Rattle.model.specs.At88sc1608.{counter_at, attempts_at}
 use Rattle.tables.specs.Trials.{blank, tries, left, Case}

@@ -1,5 +1,5 @@
 -- The listing of a session, and of a log as it stands in memory.
-use Rattle.std.specs.Prelude.{ℕ, zero, suc, ◌+◌, ◌≤◌, min, List, [], ◌++◌, ◌≡◌, length, take, drop, replicate}
+use Rattle.std.specs.Prelude.{ℕ, zero, suc, ◌≤◌, min, List, [], ◌++◌, ◌≡◌, length, take, drop, replicate}
 use Rattle.std.proofs.lemmas.List.Edits.{sets}
 use Rattle.model.specs.Sizes.{card_size, fuse_at}
 use Rattle.model.specs.Lists.{at}

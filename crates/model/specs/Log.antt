@@ -1,11 +1,10 @@
 -- The log ("Session and log", "The zone named in the log"): how it is laid out.
-use Rattle.std.specs.Prelude.{ℕ, zero, suc, ◌+◌, ◌-◌, ◌≤◌, Bool, true, cond, not, ◌&&◌, ◌||◌, List, [], ◌∷◌, ◌++◌, ◌≡◌, ltb, leb, eqb, length, take, drop}
-use Rattle.model.specs.Sizes.{card_size, fuse_at, trailer_size, least_log, most_records}
+use Rattle.std.specs.Prelude.{ℕ, ◌-◌, ◌≤◌, Bool, true, cond, not, ◌&&◌, ◌||◌, List, [], ◌∷◌, ◌++◌, ◌≡◌, leb, eqb, length}
+use Rattle.model.specs.Sizes.{card_size, fuse_at, most_records}
 use Rattle.model.specs.Lists.{at}
-use Rattle.model.specs.Numbers.{bytes_of, number_at}
+use Rattle.model.specs.Numbers.{bytes_of}
 use Rattle.model.specs.Busy.{acts_always}
 use Rattle.model.specs.Record.{known, length_fits}
-use Rattle.model.specs.Refusal.{not_a_log, no_such_answer}
 use Rattle.model.specs.Single.{is_fuse_byte, staging_fits}
 
 -- ---- the ending

@@ -22,7 +22,7 @@ use Rattle.laws.specs.StagingLaws.{staging_same}
 use Rattle.model.specs.Instruction.{Instruction}
 use Rattle.model.specs.Reader.{records_end}
 use Rattle.model.specs.Refusal.{session_length, fuse_byte, staging_bytes, no_start, no_space}
-use Rattle.model.specs.Session.{start_of, count_of, wrong_length, wrong_fuses, wrong_staging, frame, all, run}
+use Rattle.model.specs.Session.{start_of, count_of, wrong_length, wrong_fuses, wrong_staging, frame, run}
 use Rattle.model.specs.Single.{is_fuse_byte, staging_fits}
 use Rattle.model.specs.Writer.{Parts, trailer_bytes, session_bytes}
 use Rattle.laws.specs.WriterLaws.{Writable}

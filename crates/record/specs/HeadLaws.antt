@@ -1,15 +1,13 @@
 -- What the lengths and the first three bytes of an accepted record tell of it.
-use Rattle.std.specs.Prelude.{ℕ, ◌+◌, ◌≤◌, true, not, List, [], ◌≡◌, leb, eqb}
+use Rattle.std.specs.Prelude.{ℕ, ◌+◌, ◌≤◌, true, List, [], ◌≡◌}
 use Rattle.std.proofs.Math.Path.{refl}
-use Rattle.std.proofs.Common.{sym, ap, ◌∙◌, arith, ne_eqb, le-leb, leb-true}
+use Rattle.std.proofs.Common.{sym, ap, ◌∙◌}
 use Rattle.std.proofs.Math.Nat.{add-sub_cancel_left}
-use Rattle.std.proofs.lemmas.Bool.{eqb-false, not-true}
 use Rattle.model.specs.Lists.{at}
 use Rattle.model.specs.At88sc1608.{at88sc1608}
 use Rattle.model.specs.Call.{Decoded, refused, whole}
 use Rattle.model.specs.Instruction.{Instruction, kind_of}
 use Rattle.model.specs.Record.{kinds, known, fixed_fields, data_length, made, data_at, record_length, decode}
-use Rattle.laws.specs.BoolLaws.{and_left, and_right}
 use Rattle.laws.specs.CallLaws.{refused_whole}
 use Rattle.laws.specs.BusyLaws.{full_answer}
 use Rattle.laws.specs.KindLaws.{each_kind, known_within}

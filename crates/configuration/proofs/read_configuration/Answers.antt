@@ -1,4 +1,4 @@
-use Prim.Native.Nat.{◌-◌, ◌≤◌}
+use Prim.Native.Nat.{◌≤◌}
 use borrow.Author.Rules.{rules}
 use Rattle.configuration.proofs.ConfigurationLaws.{read_configuration_lem}
 use Rattle.laws.specs.Loops.{tab_start, tab_next, tab_done}

@@ -2,7 +2,7 @@
 use mathlib.Core.Path.{refl, ap}
 use native.Mathlib.Omega.{arith}
 use Rattle.session_log.specs.Found.{found_of}
-use Rattle.exports.proofs.ExportLaws.{headers_fit, answer_fits, answer_told}
+use Rattle.exports.proofs.ExportLaws.{headers_fit, answer_fits}
 use Rattle.exports.proofs.at88sc1608_answer.Goals as goal
 
 pub answer_number-requires : goal.answer_number-requires

@@ -1,6 +1,6 @@
 -- From the run and its number.
 use native.Mathlib.Omega.{arith}
-use Rattle.exports.proofs.ExportLaws.{box_log_fits, box_run_told}
+use Rattle.exports.proofs.ExportLaws.{box_log_fits}
 use Rattle.exports.proofs.at88sc1608_box_run.Goals as goal
 
 pub result_number-requires : goal.result_number-requires

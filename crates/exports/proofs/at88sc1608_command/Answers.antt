@@ -1,6 +1,6 @@
 -- From the state that was read, the command and the state that was written.
 use native.Mathlib.Omega.{arith}
-use Rattle.exports.proofs.ExportLaws.{accepted_long, response_fits, command_told}
+use Rattle.exports.proofs.ExportLaws.{accepted_long, response_fits}
 use Rattle.exports.proofs.at88sc1608_command.Goals as goal
 
 pub write_state-requires : goal.write_state-requires

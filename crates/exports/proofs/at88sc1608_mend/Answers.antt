@@ -1,6 +1,6 @@
 -- From what was mended and its number.
 use native.Mathlib.Omega.{arith}
-use Rattle.exports.proofs.ExportLaws.{mending_fits, mending_told}
+use Rattle.exports.proofs.ExportLaws.{mending_fits}
 use Rattle.exports.proofs.at88sc1608_mend.Goals as goal
 
 pub mend_number-requires : goal.mend_number-requires

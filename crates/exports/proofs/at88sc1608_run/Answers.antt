@@ -1,6 +1,6 @@
 -- From the run and its number.
 use native.Mathlib.Omega.{arith}
-use Rattle.exports.proofs.ExportLaws.{log_fits, run_told}
+use Rattle.exports.proofs.ExportLaws.{log_fits}
 use Rattle.exports.proofs.at88sc1608_run.Goals as goal
 
 pub result_number-requires : goal.result_number-requires

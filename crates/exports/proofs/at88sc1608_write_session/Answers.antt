@@ -1,5 +1,5 @@
 -- From what was written and its number.
-use Rattle.exports.proofs.ExportLaws.{session_fits, writing_told}
+use Rattle.exports.proofs.ExportLaws.{session_fits}
 use Rattle.exports.proofs.at88sc1608_write_session.Goals as goal
 
 pub result_number-requires : goal.result_number-requires

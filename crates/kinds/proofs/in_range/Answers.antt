@@ -1,7 +1,4 @@
 -- The digit of the kind, the count and the time, each by its test.
-use Prim.Native.Nat.{◌+◌, ◌%◌, ◌^◌, ◌<◌}
-use native.Mathlib.Nat.{div-le_self}
-use native.Mathlib.Omega.{arith}
 use Rattle.kinds.proofs.DigitLaws.{range_digit}
 use borrow.Author.Rules.{rules}
 use Rattle.kinds.proofs.in_range.Goals as goal

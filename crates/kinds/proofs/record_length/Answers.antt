@@ -1,7 +1,4 @@
 -- The two digits of the kind, and the count.
-use Prim.Native.Nat.{◌^◌, ◌<◌}
-use native.Mathlib.Nat.{div-le_self}
-use native.Mathlib.Omega.{arith}
 use borrow.Author.Rules.{rules}
 use Rattle.kinds.proofs.DigitLaws.{length_digit}
 use Rattle.kinds.proofs.record_length.Goals as goal

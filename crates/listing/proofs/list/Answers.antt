@@ -2,7 +2,6 @@
 use lib.Seq.{length-take-le}
 use mathlib.Core.Path.{sym, ap}
 use Rattle.record.specs.RefusalNumber.{outcome_number}
-use Rattle.text.proofs.PutLaws.{put_length}
 use Rattle.listing.proofs.ListedLaws.{list_put, refused_listing, within, log_ready, accepted_listing}
 use Rattle.listing.proofs.list.Goals as goal
 

@@ -1,6 +1,6 @@
 -- 17, or the trailer.
-use mathlib.Core.Path.{refl, ◌∙◌}
-use Rattle.mender.proofs.MendingLaws.{told, none_put, found_put}
+use mathlib.Core.Path.{refl}
+use Rattle.mender.proofs.MendingLaws.{found_put}
 use Rattle.mender.proofs.put_found.Goals as goal
 
 pub returns : goal.returns

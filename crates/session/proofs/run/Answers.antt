@@ -2,7 +2,7 @@
 use mathlib.Core.Path.{sym, ap, ◌∙◌}
 use native.Mathlib.Omega.{arith}
 use Rattle.validate.specs.Check.{checked_of}
-use Rattle.session.proofs.RunLaws.{run_refused, no_room, log_ready, run_logged}
+use Rattle.session.proofs.RunLaws.{run_refused, no_room, run_logged}
 use Rattle.session.proofs.run.Goals as goal
 
 pub returns-then-room-lt-LEAST_LOG : goal.returns-then-room-lt-LEAST_LOG

@@ -1,9 +1,7 @@
 -- Kept, or nine stores.
-use mathlib.Core.Path.{refl, ap}
-use native.Mathlib.Omega.{arith}
-use lib.ListN.{length-set}
+use mathlib.Core.Path.{ap}
 use Rattle.record.specs.RefusalNumber.{outcome_number}
-use Rattle.state_bytes.proofs.StateByteLaws.{kept, rewritten}
+use Rattle.state_bytes.proofs.StateByteLaws.{rewritten}
 use Rattle.state_bytes.proofs.write_state.Goals as goal
 
 pub returns : goal.returns

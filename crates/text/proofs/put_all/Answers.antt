@@ -1,9 +1,6 @@
-use Prim.Native.Nat.{◌-◌}
 use mathlib.Core.List.{[], ◌∷◌}
 use mathlib.Core.Path.{refl}
-use borrow.Author.Rules.{rules}
-use native.Mathlib.Omega.{arith}
-use Rattle.text.proofs.PutLaws.{putting_start, putting_next, all_place, putting_done, put_length}
+use Rattle.text.proofs.PutLaws.{putting_next}
 use Rattle.text.proofs.put_all.Goals as goal
 
 pub loop-i-preserved : goal.loop-i-preserved

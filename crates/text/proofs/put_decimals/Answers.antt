@@ -1,11 +1,8 @@
-use Prim.Native.Nat.{◌-◌}
 use mathlib.Core.List.{◌∷◌}
-use mathlib.Core.Path.{refl}
 use native.Mathlib.Omega.{arith}
-use borrow.Author.Rules.{rules}
 use Rattle.text.specs.Text.{decimal, decimals}
 use Rattle.text.specs.TextLaws.{decimals_last}
-use Rattle.text.proofs.PutLaws.{putting_start, putting_next, putting_done, put_length, put_number, number_fits, number_place}
+use Rattle.text.proofs.PutLaws.{putting_next, put_number, number_fits, number_place}
 use Rattle.text.proofs.put_decimals.Goals as goal
 
 pub put_decimal-to-requires : goal.put_decimal-to-requires

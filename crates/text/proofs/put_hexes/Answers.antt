@@ -1,11 +1,8 @@
-use Prim.Native.Nat.{◌-◌}
-use borrow.Author.Rules.{rules}
 use native.Mathlib.Omega.{arith}
 use mathlib.Core.List.{[], ◌∷◌}
-use mathlib.Core.Path.{refl}
 use Rattle.text.specs.Text.{hex, hexes}
 use Rattle.text.specs.TextLaws.{hexes_append}
-use Rattle.text.proofs.PutLaws.{putting_start, putting_next, hexing_place, putting_done, put_length}
+use Rattle.text.proofs.PutLaws.{putting_next, hexing_place}
 use Rattle.text.proofs.put_hexes.Goals as goal
 
 pub put_hex-to-requires : goal.put_hex-to-requires

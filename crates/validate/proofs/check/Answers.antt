@@ -3,7 +3,6 @@ use mathlib.Core.Path.{sym, ap, ◌∙◌}
 use native.Mathlib.Omega.{arith}
 use Rattle.record.specs.RefusalNumber.{outcome_number}
 use Rattle.properties.specs.AcceptedSessionLaws.{framed_well}
-use Rattle.validate.proofs.SessionCheckLaws.{frame_refused, records_checked}
 use Rattle.validate.proofs.check.Goals as goal
 
 pub overflow_sub-length : goal.overflow_sub-length

@@ -6,7 +6,7 @@ use Rattle.laws.specs.ReaderLaws.{next_within}
 use Rattle.laws.specs.EntryLaws.{header_short}
 use Rattle.record.specs.DecodedRecord.{measured_of}
 use Rattle.record.specs.HeadLaws.{refused_of, whole_of}
-use Rattle.validate.proofs.SessionCheckLaws.{checking_start, checking_refused, kind_within, checking_next, checking_left, checking_done}
+use Rattle.validate.proofs.SessionCheckLaws.{checking_refused, kind_within, checking_next}
 use Rattle.validate.proofs.check_records.Goals as goal
 
 pub returns-in-Refused : goal.returns-in-Refused

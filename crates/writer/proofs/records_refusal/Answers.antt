@@ -1,9 +1,8 @@
 use mathlib.Core.Path.{sym, ap, ◌∙◌}
 use native.Mathlib.Omega.{arith}
-use borrow.Author.Rules.{rules}
 use Rattle.record.specs.DecodedRecord.{measured_of}
-use Rattle.record.specs.HeadLaws.{refused_of, whole_of}
-use Rattle.writer.proofs.PartsCheckLaws.{listed_start, listed_refused, listed_within, listed_next, listed_left, listed_done}
+use Rattle.record.specs.HeadLaws.{whole_of}
+use Rattle.writer.proofs.PartsCheckLaws.{listed_within, listed_next}
 use Rattle.writer.proofs.records_refusal.Goals as goal
 
 pub overflow_add-at : goal.overflow_add-at

@@ -1,12 +1,7 @@
 -- Nothing to finish; or the staged values, and whether the fuel lasted.
-use Prim.Native.Nat.{ℕ}
-use mathlib.Core.Bool.{Bool, true, false, cond}
-use mathlib.Core.Path.{◌≡◌, refl, ◌∙◌}
+use mathlib.Core.Bool.{true, false}
+use mathlib.Core.Path.{refl, ◌∙◌}
 use borrow.Author.Tests.{eq-eqb, ne_eqb}
-use lib.Dec.{eqb}
-use Rattle.model.specs.Instruction.{power_cycle}
-use Rattle.model.specs.State.{State, power_on, power_lost}
-use Rattle.carry.specs.Carried.{Performed}
 use Rattle.busy.specs.TimedState.{state_of}
 use Rattle.carry.proofs.StagedLaws.{cycle_idle, ready_zone, ready_length, cycle_laid}
 use borrow.Author.Rules.{rules}

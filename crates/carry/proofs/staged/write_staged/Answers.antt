@@ -1,14 +1,10 @@
 -- Forbidden; or the final values, and whether the fuel lasted.
 use mathlib.Core.Bool.{not}
 use Rattle.std.proofs.Common.{ap}
-use Prim.Native.Nat.{ℕ}
-use mathlib.Core.Bool.{Bool, true, false, cond}
-use mathlib.Core.Path.{◌≡◌, refl, ◌∙◌}
+use mathlib.Core.Bool.{true, false}
+use mathlib.Core.Path.{refl, ◌∙◌}
 use borrow.Author.Tests.{eq-eqb, ne_eqb}
-use lib.Dec.{eqb}
-use Rattle.model.specs.Instruction.{write_staged}
-use Rattle.model.specs.State.{State, make_state, arming as rearmed, untorn, power_lost, write_time}
-use Rattle.carry.specs.Carried.{Performed}
+use Rattle.model.specs.State.{arming as rearmed, untorn}
 use Rattle.busy.specs.TimedState.{state_of}
 use Rattle.carry.proofs.StagedLaws.{stage_forbidden, stage_laid}
 use Rattle.carry.proofs.staged.write_staged.Goals as goal

@@ -1,4 +1,3 @@
-use Prim.Native.Nat.{◌-◌}
 use borrow.Author.Rules.{rules}
 use Rattle.laws.specs.Loops.{stores_next, stores_done}
 use Rattle.configuration.proofs.page.store_allowed.Goals as goal

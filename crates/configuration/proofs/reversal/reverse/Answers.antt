@@ -1,9 +1,8 @@
-use Prim.Native.Nat.{◌+◌, ◌-◌}
+use Prim.Native.Nat.{◌+◌}
 use borrow.Author.Rules.{rules}
-use native.Mathlib.Omega.{arith}
 use Rattle.model.specs.Bits.{reversed}
 use Rattle.model.specs.Lists.{at}
-use Rattle.laws.specs.Loops.{tab_start, tab_next, tab_done}
+use Rattle.laws.specs.Loops.{tab_start, tab_next}
 use Rattle.laws.specs.Reversal.{reversals}
 use Rattle.laws.specs.ReversalLaws.{reversal_rule}
 use Rattle.configuration.proofs.reversal.reverse.Goals as goal

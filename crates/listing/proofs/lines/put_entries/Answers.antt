@@ -1,7 +1,5 @@
-use Prim.Native.Nat.{◌-◌}
 use borrow.Author.Rules.{rules}
-use Rattle.text.proofs.PutLaws.{put_length}
-use Rattle.listing.proofs.LineLaws.{lining_start, header_within, response_begins, entry_ends, line_fits, lining_next, lining_done}
+use Rattle.listing.proofs.LineLaws.{header_within, response_begins, entry_ends, line_fits, lining_next}
 use Rattle.listing.proofs.lines.put_entries.Goals as goal
 
 pub bounds-log-at : goal.bounds-log-at

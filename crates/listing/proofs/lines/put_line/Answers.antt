@@ -1,6 +1,5 @@
 -- A number, the kind, the response, the end of the line.
 use native.Mathlib.Omega.{arith}
-use Rattle.text.specs.TextLaws.{hexes_length}
 use Rattle.listing.proofs.LineLaws.{line_is, line_put}
 use Rattle.listing.proofs.lines.put_line.Goals as goal
 

@@ -1,7 +1,7 @@
 -- The entries' lines, and those of the card.
 use borrow.Author.Rules.{rules}
 use native.Mathlib.Omega.{arith}
-use Rattle.listing.proofs.LineLaws.{log_trailed, entries_ready, entries_room, card_within, card_long, log_put}
+use Rattle.listing.proofs.LineLaws.{log_trailed, entries_ready, card_within, log_put}
 use Rattle.listing.proofs.lines.put_log.Goals as goal
 
 pub overflow_sub-length : goal.overflow_sub-length

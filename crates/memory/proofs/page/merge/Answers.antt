@@ -1,6 +1,5 @@
-use Prim.Native.Nat.{◌-◌}
 use borrow.Author.Rules.{rules}
-use Rattle.laws.specs.Loops.{tab_start, tab_next, tab_done}
+use Rattle.laws.specs.Loops.{tab_start, tab_next}
 use Rattle.memory.proofs.page.merge.Goals as goal
 
 pub loop-i-init : goal.loop-i-init

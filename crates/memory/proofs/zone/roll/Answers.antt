@@ -1,6 +1,5 @@
-use Prim.Native.Nat.{◌-◌}
 use borrow.Author.Rules.{rules}
-use Rattle.memory.proofs.RollLaws.{rolling_start, rolling_long, rolling_next, rolling_done}
+use Rattle.memory.proofs.RollLaws.{rolling_start, rolling_next, rolling_done}
 use Rattle.memory.proofs.zone.roll.Goals as goal
 
 pub loop-i-init : goal.loop-i-init

@@ -1,10 +1,9 @@
 use mathlib.Core.Path.{sym, ap, ◌∙◌}
-use Prim.Native.Nat.{◌-◌}
 use native.Mathlib.Omega.{arith}
 use Rattle.record.specs.DecodedRecord.{measured_of}
 use Rattle.mender.proofs.PartLaws.{next_refused, next_whole}
-use Rattle.mender.proofs.SearchLaws.{reading_start, reading_full, reading_refused, reading_last, reading_next}
-use Rattle.mender.proofs.SearchLaws.{trying_start, trying_none, trying_next, trying_found}
+use Rattle.mender.proofs.SearchLaws.{reading_full, reading_refused, reading_last, reading_next}
+use Rattle.mender.proofs.SearchLaws.{trying_none, trying_next, trying_found}
 use Rattle.mender.proofs.search.smallest_start.Goals as goal
 use Rattle.mender.proofs.search.smallest_start.Goals.{else-loop-count-test, then-loop-count-test+in-Refused}
 use Rattle.mender.proofs.search.smallest_start.Goals.{else-starts-test, then-starts-test+then-loop-count-test+in-Whole+then-at-end}

@@ -1,9 +1,8 @@
 -- By the laws of `tabled`: no record, the last one, one before others.
-use Prim.Native.Nat.{ℕ}
 use mathlib.Core.Path.{sym, ap, ◌∙◌}
 use native.Mathlib.Omega.{arith}
 use Rattle.record.specs.DecodedRecord.{measured_of}
-use Rattle.mender.proofs.PartLaws.{next_refused, Next, next_whole}
+use Rattle.mender.proofs.PartLaws.{next_refused, next_whole}
 use Rattle.mender.proofs.TableLaws.{tabled_refused, tabled_last, tabled_more}
 use Rattle.mender.proofs.table.count_at.Goals as goal
 

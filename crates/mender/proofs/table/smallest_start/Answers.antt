@@ -1,6 +1,5 @@
-use native.Mathlib.Omega.{arith}
 use borrow.Author.Rules.{rules}
-use Rattle.mender.proofs.TableLaws.{filled_start, filled_next, filled_done}
+use Rattle.mender.proofs.TableLaws.{filled_start, filled_next}
 use Rattle.mender.proofs.table.smallest_start.Goals as goal
 
 pub loop-at-init : goal.loop-at-init

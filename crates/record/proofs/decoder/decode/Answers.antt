@@ -1,5 +1,5 @@
 -- The refusal of the measure, or the record of the head.
-use Rattle.record.proofs.DecoderLaws.{decode_refused, decode_made}
+use Rattle.record.proofs.DecoderLaws.{decode_made}
 use mathlib.Core.Path.{sym, ap, ◌∙◌}
 use Rattle.record.specs.DecodedRecord.{measured_of}
 use Rattle.record.proofs.decoder.decode.Goals as goal

@@ -1,7 +1,7 @@
 -- Each return by the tests that led to it, in their order.
 use native.Mathlib.Omega.{arith}
 use Rattle.laws.specs.RecordLaws.{fixed_small}
-use Rattle.record.proofs.DecoderLaws.{kind_within, no_kind, unknown, fields_absent, out_of_range, data_absent, all_there}
+use Rattle.record.proofs.DecoderLaws.{no_kind, unknown, fields_absent, out_of_range, data_absent, all_there}
 use Rattle.record.proofs.decoder.measure.Goals as goal
 
 pub returns-then-part-eq0 : goal.returns-then-part-eq0

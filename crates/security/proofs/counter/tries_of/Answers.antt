@@ -1,11 +1,10 @@
-use Prim.Native.Nat.{ℕ, ◌-◌}
+use Prim.Native.Nat.{ℕ}
 use mathlib.Core.Path.{refl, ap, ◌∙◌}
 use native.Mathlib.Omega.{arith}
 use borrow.Author.Rules.{rules}
 use lib.ListN.{replicate}
 use Rattle.model.specs.Lists.{at}
 use Rattle.model.specs.Bits.{tries_left}
-use Rattle.model.specs.At88sc1608.{counter_at}
 use Rattle.laws.specs.Loops.{tab_start, tab_next, tab_done}
 use Rattle.security.proofs.CounterLaws.{all_tries}
 use Rattle.security.proofs.counter.tries_of.Goals as goal

@@ -1,7 +1,5 @@
-use mathlib.Core.Path.{sym, ◌∙◌}
 use native.Mathlib.Omega.{arith}
-use borrow.Author.Rules.{rules}
-use Rattle.session.proofs.SessionWriteLaws.{going_start, going_known, going_ready, going_forth, going_next, going_done}
+use Rattle.session.proofs.SessionWriteLaws.{going_known, going_ready, going_forth, going_next}
 use Rattle.session.proofs.write.run_records.Goals as goal
 
 pub write_entry-entered-requires : goal.write_entry-entered-requires

@@ -1,6 +1,4 @@
 -- A kind, or that of an ignored record.
-use mathlib.Core.Path.{sym, ◌∙◌}
-use Rattle.laws.specs.KindLaws.{known_within}
 use Rattle.session_log.proofs.LogCheckLaws.{fits_known, fits_ignored}
 use Rattle.session_log.proofs.check.entry_fits.Goals as goal
 

@@ -1,7 +1,4 @@
-use Prim.Native.Nat.{◌-◌}
-use native.Mathlib.Omega.{arith}
-use borrow.Author.Rules.{rules}
-use Rattle.session_log.proofs.LogCheckLaws.{walking_start, walking_next, walking_bad, walking_done}
+use Rattle.session_log.proofs.LogCheckLaws.{walking_next, walking_bad}
 use Rattle.session_log.proofs.check.scan.Goals as goal
 
 pub returns-then-header-eq0 : goal.returns-then-header-eq0

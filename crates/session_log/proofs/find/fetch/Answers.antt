@@ -4,7 +4,7 @@ use mathlib.Core.Bool.{not}
 use Rattle.std.proofs.Common.{ap}
 use mathlib.Core.Path.{◌∙◌}
 use native.Mathlib.Omega.{arith}
-use Rattle.session_log.proofs.FindLaws.{no_trailer, trailer_is, Behind, behind, bad_entries, no_answer, response_within, answer_at}
+use Rattle.session_log.proofs.FindLaws.{no_trailer, trailer_is, behind, bad_entries, no_answer, answer_at}
 use Rattle.session_log.proofs.find.fetch.Goals as goal
 
 pub returns-then-not-trailer_ok : goal.returns-then-not-trailer_ok

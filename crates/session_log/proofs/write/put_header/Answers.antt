@@ -1,11 +1,9 @@
 -- The kind, the length behind it, and the zone where it is named.
 use Prim.Native.Nat.{◌+◌}
 use mathlib.Core.Path.{sym, ap, ◌∙◌}
-use native.Mathlib.Omega.{arith}
-use lib.ListN.{length-set}
 use Rattle.laws.specs.EntryLaws.{header_four, header_three}
 use Rattle.model.specs.Log.{zoned}
-use Rattle.session_log.proofs.LogWriteLaws.{header_long, header_put, zone_put}
+use Rattle.session_log.proofs.LogWriteLaws.{header_put, zone_put}
 use Rattle.session_log.proofs.write.put_header.Goals as goal
 
 pub returns-then-names_zone : goal.returns-then-names_zone

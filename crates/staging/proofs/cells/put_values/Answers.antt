@@ -1,6 +1,5 @@
-use Prim.Native.Nat.{◌-◌}
 use borrow.Author.Rules.{rules}
-use Rattle.staging.proofs.CellPutLaws.{putting_start, putting_long, putting_next, putting_done}
+use Rattle.staging.proofs.CellPutLaws.{putting_start, putting_next}
 use Rattle.staging.proofs.cells.put_values.Goals as goal
 
 pub loop-i-init : goal.loop-i-init
