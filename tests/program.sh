@@ -5,6 +5,9 @@ work=$(mktemp -d)
 trap 'rm -rf "$work"' EXIT
 cd "$work"
 
+# The program is built first, so that what its command says of that stands in no test.
+(program=${name//-/_} && . "$top/program.sh" && build) 2>build || { cat build >&2; exit 1; }
+
 fail() {
     echo "${test_name:-$name}: $1" >&2
     exit 1
