@@ -72,19 +72,20 @@ try() { # EDIT
     fi
 }
 
-# Two at a time; what each says stays together.
+# As many at a time as there are processors; what each says stays together.
 edits=("$top"/tests/models/*.edit)
+many=$(nproc)
 status=0
-for ((i = 0; i < ${#edits[@]}; i += 2)); do
+for ((i = 0; i < ${#edits[@]}; i += many)); do
     pids=()
-    for edit in "${edits[@]:i:2}"; do
+    for edit in "${edits[@]:i:many}"; do
         try "$edit" >"$work/$(basename "$edit").said" 2>&1 &
         pids+=($!)
     done
     for pid in "${pids[@]}"; do
         wait "$pid" || status=1
     done
-    for edit in "${edits[@]:i:2}"; do
+    for edit in "${edits[@]:i:many}"; do
         cat "$work/$(basename "$edit").said"
     done
 done

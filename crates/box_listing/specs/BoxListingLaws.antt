@@ -4,7 +4,7 @@ use Rattle.std.proofs.Math.Path.{ap}
 use Rattle.model.specs.Refusal.{box_limits}
 use Rattle.model.specs.Session.{Ran}
 use Rattle.model.specs.Box.{box_refuses}
-use Rattle.properties.specs.BoxLaws.{limited, unlimited}
+use Rattle.properties.proofs.BoxLaws.{limited, unlimited}
 use Rattle.text.specs.Text.{refused_line}
 use Rattle.listing.specs.Listing.{listed, listing, PrintedText, Printed}
 use Rattle.box_listing.specs.BoxListing.{box_listing, BoxPrinted, printed_for}

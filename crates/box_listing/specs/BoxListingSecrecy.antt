@@ -6,7 +6,7 @@ use Rattle.model.specs.Session.{card_of}
 use Rattle.model.specs.Box.{box_refuses}
 use Rattle.secrecy.specs.Secret.{Sealed, Idle, register, in_zone, in_zone_or_passwords, AgreeOutside, PresentsNeither, AcceptsNot}
 use Rattle.properties.specs.BoxConditions.{EveryBoxRecord}
-use Rattle.properties.specs.BoxSecrecyLaws.{box_runs, refuses_same}
+use Rattle.properties.proofs.BoxSecrecyLaws.{box_runs, refuses_same}
 use Rattle.properties.specs.SessionSecrecyLaws.{hidden_before, zone_before}
 use Rattle.listing.specs.Listing.{listing}
 use Rattle.listing.specs.ListingSecrecy as exam

@@ -11,7 +11,7 @@ use Rattle.model.specs.Refusal.{box_limits}
 use Rattle.model.specs.Session.{count_of, wrong_length, wrong_trailer, wrong_start, wrong_count, wrong_fuses, wrong_staging, frame, Ran, rejected, run}
 use Rattle.model.specs.Box.{beyond_box, box_refuses, box_run}
 use Rattle.laws.specs.BoolLaws.{and_left}
-use Rattle.properties.specs.BoxLaws.{limited, unlimited, neither}
+use Rattle.properties.proofs.BoxLaws.{limited, unlimited, neither}
 
 -- whether the frame is refused with one of 1 to 4
 abbrev wrong : List ℕ → Bool

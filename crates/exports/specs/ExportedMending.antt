@@ -4,7 +4,7 @@ use Rattle.std.proofs.Common.{arith}
 use Rattle.model.specs.Mender.{mend}
 use Rattle.exports.specs.Exports.{exported_mending}
 use Rattle.exports.specs.Lengths.{mending_small}
-use Rattle.properties.specs.SessionMendingLaws.{mend_refusal_small}
+use Rattle.properties.proofs.SessionMendingLaws.{mend_refusal_small}
 
 -- the refusal is the first 8 bits, the count the next 24, of which it needs 16, and the start the rest
 pub mending_read : (s : List ℕ)

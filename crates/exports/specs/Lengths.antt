@@ -28,13 +28,13 @@ use Rattle.laws.specs.EntryLaws.{header_most}
 use Rattle.laws.specs.WriterLaws.{writable}
 use Rattle.properties.specs.LogLaws.{entered, trailed, answered}
 use Rattle.properties.specs.Written.{fits_small, entry_small, entries_small, log_length_lem}
-use Rattle.properties.specs.SessionAcceptance.{accepted_run, run_accepted}
+use Rattle.properties.proofs.SessionAcceptance.{accepted_run, run_accepted}
 use Rattle.properties.specs.TriesLeft.{at_most_eight, given_out}
-use Rattle.properties.specs.BoxAcceptance.{same_run}
+use Rattle.properties.proofs.BoxAcceptance.{same_run}
 use Rattle.properties.specs.Refused.{refused_run, refused_box, refused_writing}
 use Rattle.properties.specs.SessionPartsLaws.{accepted_parts}
 use Rattle.properties.specs.ReadBack.{laid_out}
-use Rattle.properties.specs.SessionMendingLaws.{mend_within}
+use Rattle.properties.proofs.SessionMendingLaws.{mend_within}
 use Rattle.properties.specs.SessionLaws.{decode_logs}
 
 -- ---- a response

@@ -13,7 +13,7 @@ use Rattle.record.specs.RefusalNumber.{refusal_number, number_some}
 use Rattle.record.specs.declared.refusal.Refusal.{Refusal}
 use Rattle.properties.specs.Written.{log_length_lem, entries_small, written_well}
 use Rattle.properties.specs.AcceptedSession.{Accepts, accepting}
-use Rattle.properties.specs.SessionAcceptance.{accepted_run, run_accepted}
+use Rattle.properties.proofs.SessionAcceptance.{accepted_run, run_accepted}
 use Rattle.properties.specs.ReadBack.{laid_out}
 use Rattle.text.specs.Put.{Put}
 use Rattle.listing.specs.Ready.{LogReady}

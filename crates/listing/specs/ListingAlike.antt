@@ -12,7 +12,7 @@ use Rattle.model.specs.At88sc1608.{at88sc1608}
 use Rattle.model.specs.Instruction.{Instruction}
 use Rattle.model.specs.Session.{end_of, initial, run}
 use Rattle.properties.specs.AcceptedSession.{Accepts}
-use Rattle.properties.specs.SessionAcceptance.{accepted_run}
+use Rattle.properties.proofs.SessionAcceptance.{accepted_run}
 use Rattle.properties.specs.SessionSecret.{SessionsAlike}
 use Rattle.text.specs.Text.{lines, tries_line, fuses_line}
 use Rattle.listing.specs.Listing.{listing, listed, card_lines}

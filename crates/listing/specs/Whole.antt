@@ -5,8 +5,8 @@ use Rattle.std.proofs.lemmas.List.{length-replicate}
 use Rattle.std.proofs.Math.Seq.{length-sets}
 use Rattle.model.specs.Lists.{Bytes}
 use Rattle.model.specs.Session.{log_of, run}
-use Rattle.properties.specs.SessionAcceptance.{accepted_run}
-use Rattle.properties.specs.SessionConditionsLaws.{refusal_most}
+use Rattle.properties.proofs.SessionAcceptance.{accepted_run}
+use Rattle.properties.proofs.SessionRefusalLaws.{refusal_most}
 use Rattle.properties.specs.AcceptedSessionLaws.{log_within}
 use Rattle.properties.specs.ReadBack.{laid_out}
 use Rattle.text.specs.Text.{decimal}

@@ -12,8 +12,6 @@ pub mod SessionParts
 pub mod MenderConditions
 pub mod BoxConditions
 -- the final statements
-pub mod SessionAcceptance
-pub mod CallAcceptance
 pub mod Refused
 pub mod OneCommand
 pub mod HeededCommands
@@ -25,12 +23,8 @@ pub mod StoredBytes
 pub mod SecurityOutcomes
 pub mod PasswordWords
 pub mod BusyTimes
-pub mod BoxAcceptance
 pub mod SessionSecrecy
 pub mod AnswerSecrecy
-pub mod BoxSecrecy
-pub mod SessionWriting
-pub mod SessionMending
 pub mod StagedWrites
 -- what proves them: of sessions and of refusals
 pub mod SessionLaws
@@ -43,7 +37,6 @@ pub mod StoredBytesLaws
 pub mod BusyTimesLaws
 pub mod ConditionsLaws
 pub mod SessionConditionsLaws
-pub mod CallConditionsLaws
 -- of the log, and of a record of a session by itself
 pub mod LogLaws
 pub mod Written
@@ -58,13 +51,9 @@ pub mod Alike
 pub mod SessionSecrecyLaws
 pub mod AnswerSecrecyLaws
 -- of the box
-pub mod BoxLaws
-pub mod BoxSecrecyLaws
 -- of the session writer
-pub mod WriterConditionsLaws
 pub mod SessionPartsLaws
 pub mod MenderSearchLaws
-pub mod SessionMendingLaws
 -- of staged writes
 pub mod SurvivalLaws
 pub mod TearLaws

@@ -21,7 +21,7 @@ use Rattle.properties.specs.SessionSecret.{SessionsAlike, AnswersAlike, EveryRec
 use Rattle.properties.specs.BoxConditions.{BoxAlike}
 use Rattle.properties.specs.SessionSecrecy as sessions
 use Rattle.properties.specs.AnswerSecrecy as answers
-use Rattle.properties.specs.BoxSecrecy as boxed
+use Rattle.properties.proofs.BoxSecrecy as boxed
 use Rattle.secrecy_examples.specs.Examples.{presents_neither, accepts_not, presents_neither_lem, accepts_not_lem, on_command}
 use Rattle.secrecy_examples.specs.Examples.{agree_set, agree_self, read_card, auth_card}
 

@@ -14,7 +14,7 @@ use Rattle.laws.specs.NumberLaws.{sets_front}
 use Rattle.model.specs.Reader.{records_end}
 use Rattle.model.specs.Refusal.{bytes_left, no_space}
 use Rattle.model.specs.Session.{start_of, count_of, frame, Read, stopped, all, read_from, initial, log_of, full_entries, rejected, ended, framed, run}
-use Rattle.properties.specs.SessionAcceptance.{run_accepted}
+use Rattle.properties.proofs.SessionAcceptance.{run_accepted}
 use Rattle.properties.specs.AcceptedSession.{Accepts}
 use Rattle.properties.specs.AcceptedSessionLaws.{log_within}
 use Rattle.properties.specs.SessionLaws.{full_total, full_total_lem}

@@ -12,7 +12,7 @@ use Rattle.properties.specs.WriterConditions.{writer_conditions}
 use Rattle.properties.specs.AcceptedSession.{accepting}
 use Rattle.properties.specs.SessionParts.{session_in, parts_of}
 use Rattle.properties.specs.ConditionsLaws.{zero_iff}
-use Rattle.properties.specs.WriterConditionsLaws.{writer_first, writer_numbered}
+use Rattle.properties.proofs.WriterConditionsLaws.{writer_first, writer_numbered}
 use Rattle.properties.specs.SessionPartsLaws.{accepted_parts, session_in_lem, parts_back, only_room}
 
 module _ (p : Parts) (space : List ℕ) where

@@ -13,7 +13,7 @@ use Rattle.properties.specs.Conditions.{first, NoneApplies}
 use Rattle.properties.specs.CallConditions.{call_conditions}
 use Rattle.properties.specs.AcceptedSession.{leaving}
 use Rattle.properties.specs.ConditionsLaws.{zero_iff}
-use Rattle.properties.specs.CallConditionsLaws.{refusal_first, call_numbered, carries}
+use Rattle.properties.proofs.CallConditionsLaws.{refusal_first, call_numbered, carries}
 
 module _ (c : List ℕ) (s : State) (bytes space : List ℕ) where
   -- the refusal of a single command is the first that applies, in the paper's order; 0 where none does

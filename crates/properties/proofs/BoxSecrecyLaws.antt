@@ -16,7 +16,7 @@ use Rattle.secrecy.specs.Secret.{AgreeOutside}
 use Rattle.properties.specs.AcceptedSession.{Accepts}
 use Rattle.properties.specs.Alike.{start_same, count_same, byte_same}
 use Rattle.properties.specs.BoxConditions.{BoxAccepts, BoxAlike}
-use Rattle.properties.specs.BoxLaws.{limited, unlimited, unrefused_accepts, accepts_unrefused}
+use Rattle.properties.proofs.BoxLaws.{limited, unlimited, unrefused_accepts, accepts_unrefused}
 use Rattle.properties.specs.SessionSecret.{SessionsAlike, RunAlike}
 use Rattle.properties.specs.SessionSecrecyLaws.{rejected_alike}
 

@@ -12,7 +12,7 @@ use Rattle.properties.specs.AcceptedSession.{accepting}
 use Rattle.properties.specs.Conditions.{first, NoneApplies}
 use Rattle.properties.specs.ConditionsLaws.{zero_iff}
 use Rattle.properties.specs.BoxConditions.{WithinBox, BoxAccepts, box_conditions}
-use Rattle.properties.specs.BoxLaws as laws
+use Rattle.properties.proofs.BoxLaws as laws
 
 module _ (s space : List ℕ) where
   -- the refusal is the first that applies, in the box's order; 0 where none does

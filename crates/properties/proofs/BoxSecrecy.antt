@@ -6,7 +6,7 @@ use Rattle.model.specs.Access.{rpe, ate, password_set}
 use Rattle.model.specs.Session.{card_of}
 use Rattle.secrecy.specs.Secret.{Sealed, Idle, register, in_zone, in_zone_or_passwords, or_staged, AgreeOutside, PresentsNeither, AcceptsNot}
 use Rattle.properties.specs.BoxConditions.{BoxAlike, EveryBoxRecord, EveryBoxElsewhere}
-use Rattle.properties.specs.BoxSecrecyLaws.{box_alike, box_runs}
+use Rattle.properties.proofs.BoxSecrecyLaws.{box_alike, box_runs}
 use Rattle.properties.specs.SessionSecrecy as sessions
 use Rattle.properties.specs.SessionSecrecyLaws.{hidden_before, zone_before}
 

@@ -18,7 +18,7 @@ use Rattle.properties.specs.AcceptedSessionLaws as exam
 use Rattle.properties.specs.Conditions.{first}
 use Rattle.properties.specs.ConditionsLaws.{Numbered, some, none_applies}
 use Rattle.properties.specs.SessionConditions.{session_conditions}
-use Rattle.properties.specs.SessionConditionsLaws.{refusal_first, session_numbered, refusal_most}
+use Rattle.properties.proofs.SessionRefusalLaws.{refusal_first, session_numbered, refusal_most}
 use Rattle.properties.specs.BoxConditions.{WithinBox, BoxAccepts, box_conditions}
 use Rattle.properties.specs.FetchLaws.{valid_headers}
 use Rattle.properties.specs.ReadBack.{valid_back, count_back}

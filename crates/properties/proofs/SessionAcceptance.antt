@@ -12,7 +12,7 @@ use Rattle.properties.specs.Conditions.{first, NoneApplies}
 use Rattle.properties.specs.SessionConditions.{session_conditions}
 use Rattle.properties.specs.AcceptedSession.{Accepts, accepting, empty}
 use Rattle.properties.specs.ConditionsLaws.{zero_iff}
-use Rattle.properties.specs.SessionConditionsLaws.{refusal_first, session_numbered}
+use Rattle.properties.proofs.SessionRefusalLaws.{refusal_first, session_numbered}
 use Rattle.properties.specs.AcceptedSessionLaws.{accepted_commands, accepted_log}
 use Rattle.properties.specs.Edges.{short_rejected, empty_log}
 

@@ -17,7 +17,7 @@ use Rattle.properties.specs.ConditionsLaws.{zero_iff}
 use Rattle.properties.specs.MenderConditions.{NoneBelow, Smallest, NoStart, mend_conditions, Passes, MendedAlike}
 use Rattle.properties.specs.SessionPartsLaws.{accepted_parts}
 use Rattle.properties.specs.MenderSearchLaws as search
-use Rattle.properties.specs.SessionMendingLaws as laws
+use Rattle.properties.proofs.SessionMendingLaws as laws
 
 module _ (s : List ℕ) where
   -- the refusal is the first that applies; 0 where none does
