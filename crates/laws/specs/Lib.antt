@@ -5,6 +5,7 @@ pub mod Tables
 pub mod Loops
 pub mod NumberLaws
 pub mod Reversal
+pub mod ReversalLaws
 pub mod BitLaws
 pub mod CallLaws
 pub mod KindLaws

@@ -4,7 +4,7 @@ use Rattle.model.specs.Bits.{reversed}
 use Rattle.model.specs.Lists.{at}
 use Rattle.laws.specs.Loops.{tab_start, tab_next}
 use Rattle.laws.specs.Reversal.{reversals}
-use Rattle.laws.proofs.ReversalLaws.{reversal_rule}
+use Rattle.laws.specs.ReversalLaws.{reversal_rule}
 use Rattle.configuration.proofs.reversal.reverse.Goals as goal
 
 pub loop-i-init : goal.loop-i-init
