@@ -23,9 +23,12 @@ replace() { # FILE OLD NEW
 
 # The crates that CRATE needs and itself, with no computed table but TABLE.
 copy() { # ROOM CRATE TABLE
-    local crate file table
+    local crate part file table
     for crate in $(sed -n "s/^$2: *//p" "$top/crates.txt") "$2"; do
-        cp -R "$top/crates/$crate" "$1/crates/"
+        mkdir "$1/crates/$crate"
+        for part in src specs proofs; do
+            [ ! -d "$top/crates/$crate/$part" ] || cp -R "$top/crates/$crate/$part" "$1/crates/$crate/"
+        done
         grep "^$crate:" "$top/crates.txt" >>"$1/crates.txt"
     done
     [ -n "$3" ] || return 0

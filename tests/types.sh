@@ -2,7 +2,6 @@
 # The compiler rejects a password set where a zone is asked and a zone where a password set is asked, as an argument and as a
 # result. A type error never reaches the prover, so this is no must-fail edit: a scratch crate over `access` is checked, once with
 # the right types and then with one wrong type at a time.
-# It takes what `rt check` left in the crates' out/.
 set -euo pipefail
 top=$(cd "$(dirname "${BASH_SOURCE[0]}")/.." && pwd)
 work=$(mktemp -d)
@@ -10,7 +9,10 @@ trap 'rm -rf "$work"' EXIT
 mkdir -p "$work/crates/scratch/src"
 needed="$(sed -n 's/^access: *//p' "$top/crates.txt") access"
 for crate in $needed; do
-    cp -R "$top/crates/$crate" "$work/crates/"
+    mkdir "$work/crates/$crate"
+    for part in src specs proofs; do
+        [ ! -d "$top/crates/$crate/$part" ] || cp -R "$top/crates/$crate/$part" "$work/crates/$crate/"
+    done
     grep "^$crate:" "$top/crates.txt" >>"$work/crates.txt"
 done
 echo "scratch: $needed" >>"$work/crates.txt"
