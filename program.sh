@@ -34,12 +34,13 @@ build() {
     fi
 }
 
-# Runs a program. A refusal has no status of its own, so what it says on standard error tells; its output goes out only when it is whole.
+# Runs a program. A refusal has no status of its own, so what it says on standard error tells too; its output goes out only when it is whole.
 run_whole() {
     work=$(mktemp -d)
     trap 'rm -rf "$work"' EXIT
-    "$@" >"$work/out" 2>"$work/err" || :
-    if [ -s "$work/err" ]; then
+    status=0
+    "$@" >"$work/out" 2>"$work/err" || status=$?
+    if [ -s "$work/err" ] || [ "$status" -ne 0 ]; then
         cat "$work/err" >&2
         exit 1
     fi

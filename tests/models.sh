@@ -66,11 +66,13 @@ try() { # EDIT
         esac
     done <"$1"
     (cd "$room/crates/$by" && rt check) >"$room/log" 2>&1 || true
-    if refused "$room/log" "$by" "$table"; then
-        echo "models: $name: refused, as it must be (first at crates/$by/$(grep -m 1 -o '^\./[^ ]*: error: .[^`]*' "$room/log" | sed 's/^\.\///; s/: error: `/ /'))"
+    cp "$room/log" "$work/$name.log"
+    rm -rf "$room"
+    if refused "$work/$name.log" "$by" "$table"; then
+        echo "models: $name: refused, as it must be (first at crates/$by/$(grep -m 1 -o '^\./[^ ]*: error: .[^`]*' "$work/$name.log" | sed 's/^\.\///; s/: error: `/ /'))"
     else
         echo "models: $name: NOT REFUSED by $by${table:+, table $table}"
-        tail -n 5 "$room/log"
+        tail -n 5 "$work/$name.log"
         return 1
     fi
 }

@@ -1,6 +1,5 @@
 -- Each return by the tests that led to it.
 use mathlib.Core.Bool.{not}
-use mathlib.Core.Bool.{not}
 use Rattle.std.proofs.Common.{ap}
 use Rattle.security.proofs.AuthenticationLaws.{judge_idle, judge_accepted, judge_denied}
 use Rattle.security.proofs.authentication.verify_authentication.Goals as goal

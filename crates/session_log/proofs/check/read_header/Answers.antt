@@ -1,6 +1,5 @@
 -- Each return by the tests that led to it; the response begins behind three bytes, or four where the zone is named.
 use mathlib.Core.Bool.{not}
-use mathlib.Core.Bool.{not}
 use Rattle.std.proofs.Common.{ap}
 use Rattle.session_log.proofs.LogCheckLaws.{Begun, bad_zone, begun_named, begun_unnamed, beyond, misfit, well_read}
 use Rattle.session_log.proofs.check.read_header.Goals as goal

@@ -1,6 +1,5 @@
 -- Each return by the tests that led to it.
 use mathlib.Core.Bool.{not}
-use mathlib.Core.Bool.{not}
 use Rattle.std.proofs.Common.{ap}
 use mathlib.Core.Path.{◌∙◌}
 use native.Mathlib.Omega.{arith}
