@@ -19,14 +19,14 @@ echo "scratch: $needed" >>"$work/crates.txt"
 cat >"$work/right" <<'END'
 #![tactic(auto)]
 
-use access::volatile::{PwSet, Volatile, Zone, selecting};
+use access::volatile::{PwSet, Volatile, Zone};
 
 fn number(set: PwSet) -> u8 {
     set.0
 }
 
 pub fn select(state: Volatile, given: Zone) -> Volatile {
-    selecting(state, given)
+    state.selecting(given)
 }
 
 pub fn number_of(given: PwSet) -> u8 {

@@ -1,3 +1,4 @@
 pub mod VolatileState
 pub mod Register
+pub mod Permissions
 pub mod Column

@@ -1,14 +1,13 @@
 -- The volatile state of the code as that of the model.
+use Rattle.std.specs.Prelude.{ℕ, Option, Some, None}
 use Rattle.model.specs.Volatile as model
-use Rattle.access.specs.declared.volatile.Active.{Active}
-use Rattle.access.specs.declared.volatile.Active.TheVariants as active
 use Rattle.access.specs.declared.volatile.Authentication.{Authentication}
 use Rattle.access.specs.declared.volatile.Authentication.TheVariants as authentication
 use Rattle.access.specs.declared.volatile.Volatile.{Volatile}
 
-abbrev pub active_of : Active → model.Active
-active_of active.None = model.none
-active_of (active.Selector k) = model.selector k
+abbrev pub active_of : Option ℕ → model.Active
+active_of None = model.none
+active_of (Some k) = model.selector k
 
 abbrev pub authentication_of : Authentication → model.Authentication
 authentication_of authentication.Idle = model.idle

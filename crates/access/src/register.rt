@@ -15,6 +15,7 @@ pub struct Register {
     pub pgo: bool,
 }
 
+// No `From`, which would say the same by a ghost member, a line longer.
 pub fn fields(register: u8) -> Register
     ensures { result ≡ fields_of register }
 {

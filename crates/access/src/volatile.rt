@@ -1,24 +1,33 @@
 // The volatile state: what a card keeps beside its bytes while it has power.
-ghost use Rattle.std.specs.Prelude.{◌≡◌};
+ghost use Rattle.std.specs.Prelude.{◌≡◌, cond, ◌+◌, ◌<◌};
 ghost use Rattle.model.specs.Volatile.{power_up, is_active, is_begun, is_granted};
 ghost use Rattle.model.specs.Volatile as model;
 ghost use Rattle.access.specs.VolatileState.{active_of, authentication_of, volatile_of};
 
 // The number of a zone and that of a password set, each from 0 to 7: two types, so that neither passes for the other.
-#[derive(Clone, Copy)]
+#[derive(Clone, Copy, Debug, PartialEq, Eq)]
 pub struct Zone(pub u8);
 
-#[derive(Clone, Copy)]
+#[derive(Clone, Copy, Debug, PartialEq, Eq)]
 pub struct PwSet(pub u8);
 
-// The active password: a selector below 8 is the write password of that set, 8 more the read password.
-#[derive(Clone, Copy)]
-pub enum Active {
-    None,
-    Selector(u8),
+impl PwSet {
+    // The selectors of its write password and of its read password.
+    pub fn write_selector(self) -> u8
+        ensures { result ≡ self.0 }
+    {
+        self.0
+    }
+
+    pub fn read_selector(self) -> u8
+        requires { self.0 < 8 }
+        ensures { result ≡ 8 + self.0 }
+    {
+        8 + self.0
+    }
 }
 
-#[derive(Clone, Copy)]
+#[derive(Clone, Copy, PartialEq, Eq)]
 pub enum Authentication {
     Idle,
     Begun,
@@ -28,83 +37,60 @@ pub enum Authentication {
 #[derive(Clone, Copy)]
 pub struct Volatile {
     pub zone: Zone,
-    pub active: Active,
+    // The selector of the active password: below 8 the write password of that set, 8 more the read password.
+    pub active: Option<u8>,
     pub authentication: Authentication,
 }
 
-pub fn power_up() -> Volatile
-    ensures { volatile_of result ≡ power_up }
-{
-    Volatile {
-        zone: Zone(0),
-        active: Active::None,
-        authentication: Authentication::Idle,
+impl Volatile {
+    pub fn power_up() -> Volatile
+        ensures { volatile_of result ≡ power_up }
+    {
+        Volatile {
+            zone: Zone(0),
+            active: None,
+            authentication: Authentication::Idle,
+        }
     }
-}
 
-// The state with another zone, another active password, another authentication.
-pub fn selecting(state: Volatile, zone: Zone) -> Volatile
-    ensures { volatile_of result ≡ model.selecting (volatile_of state) zone.0 }
-{
-    let active = state.active;
-    let authentication = state.authentication;
-    Volatile {
-        zone,
-        active,
-        authentication,
+    // The state with another zone, another active password, another authentication.
+    pub fn selecting(self, zone: Zone) -> Volatile
+        ensures { volatile_of result ≡ model.selecting (volatile_of self) zone.0 }
+    {
+        Volatile { zone, ..self }
     }
-}
 
-pub fn activating(state: Volatile, active: Active) -> Volatile
-    ensures { volatile_of result ≡ model.activating (volatile_of state) (active_of active) }
-{
-    let zone = state.zone;
-    let authentication = state.authentication;
-    Volatile {
-        zone,
-        active,
-        authentication,
+    pub fn activating(self, active: Option<u8>) -> Volatile
+        ensures { volatile_of result ≡ model.activating (volatile_of self) (active_of active) }
+    {
+        Volatile { active, ..self }
     }
-}
 
-pub fn authenticating(state: Volatile, authentication: Authentication) -> Volatile
-    ensures { volatile_of result ≡ model.authenticating (volatile_of state) (authentication_of authentication) }
-{
-    let zone = state.zone;
-    let active = state.active;
-    Volatile {
-        zone,
-        active,
-        authentication,
+    pub fn authenticating(self, authentication: Authentication) -> Volatile
+        ensures { volatile_of result ≡ model.authenticating (volatile_of self) (authentication_of authentication) }
+    {
+        Volatile {
+            authentication,
+            ..self
+        }
     }
-}
 
-// Whether the password of this selector is the active one.
-pub fn is_active(active: Active, selector: u8) -> bool
-    ensures { result ≡ is_active (active_of active) selector }
-{
-    match active {
-        Active::None => false,
-        Active::Selector(k) => k == selector,
+    // Whether the password of this selector is the active one.
+    pub fn is_active(self, selector: u8) -> bool
+        ensures { result ≡ is_active (active_of self.active) selector }
+    {
+        self.active == Some(selector)
     }
-}
 
-pub fn is_begun(authentication: Authentication) -> bool
-    ensures { result ≡ is_begun (authentication_of authentication) }
-{
-    match authentication {
-        Authentication::Idle => false,
-        Authentication::Begun => true,
-        Authentication::Granted => false,
+    pub fn is_begun(self) -> bool
+        ensures { result ≡ is_begun (authentication_of self.authentication) }
+    {
+        self.authentication == Authentication::Begun
     }
-}
 
-pub fn is_granted(authentication: Authentication) -> bool
-    ensures { result ≡ is_granted (authentication_of authentication) }
-{
-    match authentication {
-        Authentication::Idle => false,
-        Authentication::Begun => false,
-        Authentication::Granted => true,
+    pub fn is_granted(self) -> bool
+        ensures { result ≡ is_granted (authentication_of self.authentication) }
+    {
+        self.authentication == Authentication::Granted
     }
 }

@@ -14,7 +14,8 @@ pub fn print_boxed(session: &[u8], text: &mut [u8; TEXT_SPACE]) -> usize
     ensures { BoxPrinted session.now text.old result text.new }
 {
     if box_refuses(session) {
-        return put_refusal(text, Refusal::BoxLimits);
+        put_refusal(text, Refusal::BoxLimits)
+    } else {
+        print(session, text)
     }
-    print(session, text)
 }

@@ -51,8 +51,8 @@ module _ (s : List ℕ) (n : ℕ) (t : Bool) (number : n ≡ frame s) (test : t 
     unfolding box_refuses
     limits = ap (λ (w : Bool). not w && beyond_box s) (sym none ∙ tested)
 
-    pub too_long : box_session < length s → true ≡ box_refuses s
-    too_long h = sym (rw (lt-ltb _ _ h)) ∙ limits
+    pub too_long : box_session < length s → ltb box_session (length s) ≡ box_refuses s
+    too_long h = lt-ltb _ _ h ∙ sym (rw (lt-ltb _ _ h)) ∙ limits
 
     pub count_decides : length s ≤ box_session → (count : ℕ) → count ≡ count_of s → ltb box_records count ≡ box_refuses s
     count_decides h count e = ap (λ (m : ℕ). ltb box_records m) e ∙ sym (rw (le-ltb _ _ h)) ∙ limits

@@ -5,10 +5,8 @@ ghost use Rattle.std.specs.Prelude.{◌≡◌};
 ghost use Rattle.model.specs.Box as model;
 ghost use Rattle.session.specs.Run.{ran_of};
 
-use kinds::both;
-use record::number::get2;
-use record::refusal::{Outcome, Refusal, outcome_number};
-use session::result::Run;
+use record::number;
+use record::refusal::{Refusal, outcome_number};
 use session::run;
 use sizes::{BOX_RECORDS, BOX_SESSION};
 use validate::frame;
@@ -18,25 +16,19 @@ pub fn box_refuses(session: &[u8]) -> bool
     ensures { result ≡ model.box_refuses session.now }
 {
     let number = outcome_number(frame(session));
-    if both(1 <= number, number <= 4) {
+    if (1..=Refusal::TooManyRecords as u8).contains(&number) {
         return false;
     }
     let length = session.len();
-    if BOX_SESSION < length {
-        return true;
-    }
-    BOX_RECORDS < get2(session, length - 4)
+    BOX_SESSION < length || BOX_RECORDS < number::get::<2>(session, length - 4)
 }
 
 // A session run in the box: 18, or what an exam machine does with it.
-pub fn box_run(session: &[u8], log: &mut [u8]) -> Run
+pub fn box_run(session: &[u8], log: &mut [u8]) -> Result<usize, Refusal>
     ensures { ran_of result log.new ≡ model.box_run session.now log.old }
 {
     if box_refuses(session) {
-        return Run {
-            outcome: Outcome::Refused(Refusal::BoxLimits),
-            size: 0,
-        };
+        return Err(Refusal::BoxLimits);
     }
     run(session, log)
 }

@@ -12,8 +12,7 @@ ghost use Rattle.access.specs.VolatileState.{volatile_of};
 ghost use Rattle.staging.specs.Fuel.{tear_of};
 ghost use Rattle.busy.specs.TimedState.{state_of};
 
-use access::rights::either;
-use access::volatile::{Volatile, power_up};
+use access::volatile::Volatile;
 use sizes::FLAG;
 use staging::READY;
 use staging::tear::Tear;
@@ -25,7 +24,7 @@ pub const WRITE_TIME: u8 = 10;
 #[derive(Clone, Copy)]
 pub struct Power {
     pub off: bool,
-    pub tear: Tear,
+    pub tear: Option<Tear>,
 }
 
 // The volatile state; for how many milliseconds the card is still busy, 0 when it is ready; and its power.
@@ -36,60 +35,55 @@ pub struct State {
     pub power: Power,
 }
 
-// The state with another volatile state and busy time.
-pub fn timed(state: State, volatile: Volatile, busy: u8) -> State
-    ensures { state_of result ≡ model.timed (state_of state) (volatile_of volatile) busy }
-{
-    let power = state.power;
-    State {
-        volatile,
-        busy,
-        power,
+impl State {
+    // The state with another volatile state and busy time.
+    pub fn timed(self, volatile: Volatile, busy: u8) -> State
+        ensures { state_of result ≡ model.timed (state_of self) (volatile_of volatile) busy }
+    {
+        State {
+            volatile,
+            busy,
+            ..self
+        }
     }
-}
 
-// The state with another tear armed.
-pub fn arming(state: State, tear: Tear) -> State
-    ensures { state_of result ≡ model.arming (state_of state) (tear_of tear) }
-{
-    let volatile = state.volatile;
-    let busy = state.busy;
-    let off = state.power.off;
-    State {
-        volatile,
-        busy,
-        power: Power { off, tear },
+    // The state with another tear armed, or none.
+    pub fn arming(self, tear: Option<Tear>) -> State
+        ensures { state_of result ≡ model.arming (state_of self) (tear_of tear) }
+    {
+        let power = Power { tear, ..self.power };
+        State { power, ..self }
     }
-}
 
-// After power-up, with what is still armed.
-pub fn powered_up(tear: Tear) -> State
-    ensures { state_of result ≡ powered_up (tear_of tear) }
-{
-    State {
-        volatile: power_up(),
-        busy: 0,
-        power: Power { off: false, tear },
+    // After power-up, with what is still armed.
+    pub fn powered_up(tear: Option<Tear>) -> State
+        ensures { state_of result ≡ powered_up (tear_of tear) }
+    {
+        State {
+            volatile: Volatile::power_up(),
+            busy: 0,
+            power: Power { off: false, tear },
+        }
     }
-}
 
-pub fn power_on() -> State
-    ensures { state_of result ≡ power_on }
-{
-    powered_up(Tear::Untorn)
-}
+    pub fn power_on() -> State
+        ensures { state_of result ≡ power_on }
+    {
+        State::powered_up(None)
+    }
 
-// After a tear.
-pub fn power_lost() -> State
-    ensures { state_of result ≡ power_lost }
-{
-    State {
-        volatile: power_up(),
-        busy: 0,
-        power: Power {
+    // After a tear.
+    pub fn power_lost() -> State
+        ensures { state_of result ≡ power_lost }
+    {
+        let power = Power {
             off: true,
-            tear: Tear::Untorn,
-        },
+            tear: None,
+        };
+        State {
+            power,
+            ..State::power_on()
+        }
     }
 }
 
@@ -97,14 +91,14 @@ pub fn power_lost() -> State
 fn acts_always(kind: u8) -> bool
     ensures { result ≡ acts_always kind }
 {
-    either(kind == 1, kind == 16)
+    kind == 1 || kind == 16
 }
 
 // Whether they act on a card that is busy: wait and poll too.
 fn acts_busy(kind: u8) -> bool
     ensures { result ≡ acts_busy kind }
 {
-    either(acts_always(kind), either(kind == 13, kind == 14))
+    acts_always(kind) || kind == 13 || kind == 14
 }
 
 // helper: whether a card is off or has a write to finish.
@@ -112,7 +106,7 @@ pub fn is_halted(card: &[u8], off: bool) -> bool
     requires { length card.now ≡ card_size }
     ensures { result ≡ (off || is_ready at88sc1608 card.now) }
 {
-    either(off, card[FLAG] == READY)
+    off || card[FLAG] == READY
 }
 
 // Whether a card, halted or not, with this busy time ignores a record of a kind.
@@ -120,37 +114,29 @@ pub fn is_ignored(halted: bool, busy: u8, kind: u8) -> bool
     ensures { result ≡ cond halted (not (acts_always kind)) (ltb 0 busy && not (acts_busy kind)) }
 {
     if halted {
-        return !acts_always(kind);
+        !acts_always(kind)
+    } else {
+        0 < busy && !acts_busy(kind)
     }
-    !either(busy == 0, acts_busy(kind))
 }
 
 // The busy time after a command that makes a card busy, or does not.
 pub fn time_after(busy: bool) -> u8
     ensures { result ≡ cond busy write_time 0 }
 {
-    if busy {
-        return WRITE_TIME;
-    }
-    0
+    if busy { WRITE_TIME } else { 0 }
 }
 
 // The busy time after so many milliseconds.
 pub fn time_left(busy: u8, passed: u8) -> u8
     ensures { result ≡ busy - passed }
 {
-    if passed < busy {
-        return busy - passed;
-    }
-    0
+    busy.saturating_sub(passed)
 }
 
 // The byte that a poll answers.
 pub fn busy_byte(busy: u8) -> u8
     ensures { result ≡ cond (ltb 0 busy) 1 0 }
 {
-    if 0 < busy {
-        return 1;
-    }
-    0
+    u8::from(0 < busy)
 }

@@ -7,6 +7,10 @@ use mathlib.Core.Path.{◌≡◌, refl, sym, ap, ◌∙◌}
 use lib.Dec.{ltb}
 use lib.ListN.{length, set}
 use lib.Seq.{set_split}
+use native.Mathlib.Omega.{arith}
+use Rattle.kinds.specs.declared.kind.Kind.{Kind}
+use Rattle.kinds.specs.declared.kind.Kind.TheVariants as kind
+use Rattle.kinds.specs.KindNumber.{kind_number}
 use Rattle.model.specs.Instruction.{Instruction, wait, poll, arm}
 use Rattle.model.specs.At88sc1608.{at88sc1608}
 use Rattle.model.specs.State.{tear_after, State, timed, arming}
@@ -42,3 +46,25 @@ module _ (c : List ℕ) (s : State) (space : List ℕ) where
         handed = w.handed;
         answer = sym (rw e (ap (λ (x : List ℕ). x ++ space) (no_elements (perform c s i).report.answer (full_answer_lem at88sc1608 c s i ∙ e))));
       }
+
+-- ---- the kinds that are issued
+
+pub issued_within : (k : Kind) (n : ℕ) → kind_number k ≡ n → (k ≡ kind.PowerCycle → ⊥) → (k ≡ kind.Wait → ⊥) → (k ≡ kind.Poll → ⊥) → (k ≡
+    kind.WriteStaged → ⊥) → (k ≡ kind.Arm → ⊥)
+    → (2 ≤ n) × (n ≤ 12)
+issued_within kind.PowerCycle n e b c d f g = absurd (b refl)
+issued_within kind.Reset n e b c d f g = (omega arith, omega arith)
+issued_within kind.Select n e b c d f g = (omega arith, omega arith)
+issued_within kind.ReadZone n e b c d f g = (omega arith, omega arith)
+issued_within kind.WriteZone n e b c d f g = (omega arith, omega arith)
+issued_within kind.ReadConfiguration n e b c d f g = (omega arith, omega arith)
+issued_within kind.WriteConfiguration n e b c d f g = (omega arith, omega arith)
+issued_within kind.ReadFuses n e b c d f g = (omega arith, omega arith)
+issued_within kind.WriteFuses n e b c d f g = (omega arith, omega arith)
+issued_within kind.VerifyPassword n e b c d f g = (omega arith, omega arith)
+issued_within kind.BeginAuthentication n e b c d f g = (omega arith, omega arith)
+issued_within kind.VerifyAuthentication n e b c d f g = (omega arith, omega arith)
+issued_within kind.Wait n e b c d f g = absurd (c refl)
+issued_within kind.Poll n e b c d f g = absurd (d refl)
+issued_within kind.WriteStaged n e b c d f g = absurd (f refl)
+issued_within kind.Arm n e b c d f g = absurd (g refl)

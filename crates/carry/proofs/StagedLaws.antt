@@ -1,29 +1,29 @@
 -- What a power cycle and a staged write leave, from the cells that were written while the fuel lasted.
-use Prim.Native.Nat.{ℕ, ◌+◌, ◌-◌, ◌*◌, ◌≤◌, ◌<◌}
+use Prim.Native.Nat.{ℕ, ◌+◌, ◌-◌, ◌≤◌, ◌<◌}
 use mathlib.Core.Bool.{Bool, true, false, cond, not}
 use mathlib.Core.List.{List, ◌++◌}
 use mathlib.Core.Path.{◌≡◌, refl, sym, ap, ◌∙◌}
 use native.Mathlib.Omega.{arith}
 use borrow.Author.Tests.{eq-eqb, ne_eqb, not-true, not-false}
 use lib.Dec.{eqb}
-use lib.ListN.{length, take, drop, length-drop}
-use lib.Seq.{sets, take_at, length-take-le}
+use lib.ListN.{length, take, drop}
+use lib.Seq.{take_at, take-take}
 use Rattle.model.specs.Sizes.{card_size, flag_at}
-use Rattle.model.specs.Lists.{at, tab}
+use Rattle.model.specs.Lists.{at}
 use Rattle.model.specs.Cells.{Cell, write_cells}
 use Rattle.model.specs.Instruction.{Instruction, power_cycle, write_staged}
 use Rattle.model.specs.At88sc1608.{at88sc1608}
-use Rattle.model.specs.Staging.{ready_flag, is_ready, staged_zone, staged_address, staged_values, may_stage, final_values, finish_cells, stage_cells, pending_cells}
-use Rattle.model.specs.Staging.{tears_in}
+use Rattle.model.specs.Staging.{ready_flag, is_ready, staged_zone, staged_address, staged_values, pending_cells, finish_cells}
+use Rattle.model.specs.Staging.{may_stage, final_values, stage_cells, tears_in}
 use Rattle.model.specs.State.{Tear, untorn, State, make_state, timed, powered_up, power_on, power_lost, write_time}
 use Rattle.model.specs.Call.{Acted}
 use Rattle.model.specs.Act.{laid, cycled, staged}
 use Rattle.model.specs.Act as any
 use Rattle.model.specs.Single.{staging_fits, perform}
 use Rattle.laws.specs.ListLaws.{length_tab, tab_cong, tab_part}
-use Rattle.laws.specs.NumberLaws.{sets_front}
 use Rattle.laws.specs.StagingLaws.{fits_ready, finish_count, stage_count}
-use Rattle.staging.specs.Fuel.{fueled, fuel_of, junk_of, fueled_under, fuel_out}
+use Rattle.staging.specs.Fuel.{fueled, Writes, fuel_of, junk_of, fueled_under, fuel_out}
+use Rattle.staging.specs.declared.cells.Fuel.{Fuel}
 use Rattle.carry.specs.Carried.{Performed}
 
 -- what an act leaves that hands out nothing
@@ -34,17 +34,16 @@ performed c s i m e c' s' tries p q r =
 
 -- ---- cells written while the fuel lasts
 
-module _ (c : List ℕ) (tear : Tear) (t : State) (ws : List Cell) (few : length ws < 256) (f junk left : ℕ) (fuels : f ≡ fuel_of tear)
-    (junks : junk ≡ junk_of tear)
-    (lasts : left ≡ f - length ws) (c' : List ℕ) (cells : c' ≡ write_cells (fueled junk f ws) c) where
+module _ (c : List ℕ) (tear : Tear) (t : State) (ws : List Cell) (few : length ws < 256) (f f' : Fuel) (cells : f.cells ≡ fuel_of tear)
+    (junk : f.junk ≡ junk_of tear) (c' : List ℕ) (w : Writes f ws c f' c') where
   laid_card : c' ≡ (laid at88sc1608 c tear t ws).card
-  laid_card = cells ∙ (λ j. write_cells (fueled (junks j) (fuels j) ws) c) ∙ ap (λ (us : List Cell). write_cells us c) (fueled_under tear ws few)
+  laid_card = w.cells ∙ (λ j. write_cells (fueled (junk j) (cells j) ws) c) ∙ ap (λ (us : List Cell). write_cells us c) (fueled_under tear ws few)
 
-  out : eqb left 0 ≡ tears_in tear (length ws)
-  out = ap (λ (n : ℕ). eqb n 0) (lasts ∙ ap (λ (n : ℕ). n - length ws) fuels) ∙ fuel_out tear (length ws) few
+  out : eqb f'.cells 0 ≡ tears_in tear (length ws)
+  out = ap (λ (n : ℕ). eqb n 0) (w.lasts ∙ ap (λ (n : ℕ). n - length ws) cells) ∙ fuel_out tear (length ws) few
 
   -- an act that writes these cells: without fuel the power is lost
-  pub act_laid : (s : State) (i : Instruction) → perform c s i ≡ laid at88sc1608 c tear t ws → (lost : Bool) → eqb left 0 ≡ lost
+  pub act_laid : (s : State) (i : Instruction) → perform c s i ≡ laid at88sc1608 c tear t ws → (lost : Bool) → eqb f'.cells 0 ≡ lost
       → (s' : State) (tries : ℕ) → s' ≡ cond lost power_lost t → tries ≡ 0 → Performed c s i c' s' tries
   act_laid s i e lost q s' tries p z =
       performed c s i _ e c' s' tries laid_card (p ∙ ap (λ (x : Bool). cond x power_lost t) (sym q ∙ out)) z
@@ -71,39 +70,27 @@ module _ (c : List ℕ) (s : State) where
     ready_length = (fits_ready at88sc1608 c fits is_ready_lem).1
 
     -- the values that were copied
-    module _ (blank values : List ℕ) (n : ℕ) (eight : length blank ≡ 8) (counts : n ≡ at c 2180) (copied : values ≡ sets blank 0 (take n (drop 2181 c))) where
-      pub copied_are : take (n - 0) (drop 0 values) ≡ staged_values at88sc1608 c
+    module _ (values : List ℕ) (copied : values ≡ take 8 (drop 2181 c)) where
+      pub copied_are : take (at c 2180) values ≡ staged_values at88sc1608 c
       copied_are =
           let l = ready_length in
-          let z : n - 0 ≡ n = omega arith in
-          let part : take n (drop 2181 c) ≡ staged_values at88sc1608 c =
-          sym (tab_part c 2181 n (omega arith)) ∙ (λ j. tab (λ k. at c (2181 + k)) (counts j))
-          ∙ tab_cong _ _ (at c 2180) (λ k h. ap (at c) (let e : 2181 + k ≡ 2178 + (3 + k) = omega arith in e)) in
-          let size : length (take n (drop 2181 c)) ≡ n = length-take-le n (drop 2181 c) (let d = length-drop 2181 c in omega arith) in
-          ap (λ (k : ℕ). take k values) z ∙ ap (take n) (copied ∙ sets_front blank (take n (drop 2181 c)) (omega arith))
-          ∙ take_at (take n (drop 2181 c)) _ n size ∙ part
+          ap (take (at c 2180)) copied ∙ take-take (at c 2180) 8 (drop 2181 c) l
+          ∙ sym (tab_part c 2181 (at c 2180) (omega arith))
+          ∙ tab_cong _ _ (at c 2180) (λ k h. ap (at c) (let e : 2181 + k ≡ 2178 + (3 + k) = omega arith in e))
 
-      module _ (f junk left : ℕ) (c' : List ℕ) (fuels : f ≡ fuel_of s.tear) (junks : junk ≡ junk_of s.tear)
-          (lasts : left ≡ f - (length (take (n - 0) (drop 0 values)) + 1))
-          (cells : c' ≡ write_cells (fueled junk f (finish_cells at88sc1608 (at c 2178) (at c 2179) (take (n - 0) (drop 0 values)))) c) where
-        abbrev ws : List Cell
-        ws = pending_cells at88sc1608 c
+      module _ (f f' : Fuel) (c' : List ℕ) (cells : f.cells ≡ fuel_of s.tear) (junk : f.junk ≡ junk_of s.tear)
+          (w : Writes f (finish_cells at88sc1608 (at c 2178) (at c 2179) (take (at c 2180) values)) c f' c') where
+        few : length (pending_cells at88sc1608 c) < 256
+        few =
+            let e = finish_count at88sc1608 (staged_zone at88sc1608 c) (staged_address at88sc1608 c) (staged_values at88sc1608 c) in
+            let l = ready_length in
+            let q = length_tab (λ k. at c (2178 + (3 + k))) (at c 2180) in omega arith
 
-        count : length ws ≡ length (staged_values at88sc1608 c) + 1
-        count = finish_count at88sc1608 (staged_zone at88sc1608 c) (staged_address at88sc1608 c) (staged_values at88sc1608 c)
-
-        few : length ws < 256
-        few = let e = count in let l = ready_length in let q = length_tab (λ k. at c (2178 + (3 + k))) (at c 2180) in omega arith
-
-        cells_are : c' ≡ write_cells (fueled junk f ws) c
-        cells_are = cells ∙ ap (λ (vs : List ℕ). write_cells (fueled junk f (finish_cells at88sc1608 (at c 2178) (at c 2179) vs)) c) copied_are
-
-        left_is : left ≡ f - length ws
-        left_is = lasts ∙ ap (λ (m : ℕ). f - m) (ap (λ (vs : List ℕ). length vs + 1) copied_are ∙ sym count)
-
-        pub cycle_laid : (lost : Bool) → eqb left 0 ≡ lost → (s' : State) (tries : ℕ) → s' ≡ cond lost power_lost power_on → tries ≡ 0
+        pub cycle_laid : (lost : Bool) → eqb f'.cells 0 ≡ lost → (s' : State) (tries : ℕ) → s' ≡ cond lost power_lost power_on → tries ≡ 0
             → Performed c s power_cycle c' s' tries
-        cycle_laid = act_laid c s.tear power_on ws few f junk left fuels junks left_is c' cells_are s power_cycle (cycle_is true is_ready_lem)
+        cycle_laid =
+            act_laid c s.tear power_on (pending_cells at88sc1608 c) few f f' cells junk c' (rw copied_are at w) s power_cycle
+            (cycle_is true is_ready_lem)
 
 -- ---- a staged write
 
@@ -124,28 +111,13 @@ module _ (c : List ℕ) (s : State) (a : ℕ) (xs : List ℕ) where
     abbrev vs : List ℕ
     vs = final_values at88sc1608 c z a xs
 
-    values_are : take (length xs - 0) (drop 0 values) ≡ vs
-    values_are =
-        let e : length xs - 0 ≡ length xs = omega arith in
-        ap (λ (k : ℕ). take k values) e ∙ ap (take (length xs)) valued ∙ take_at vs _ (length xs) (length_tab _ (length xs))
+    values_are : take (length xs) values ≡ vs
+    values_are = ap (take (length xs)) valued ∙ take_at vs _ (length xs) (length_tab _ (length xs))
 
-    module _ (f junk left : ℕ) (c' : List ℕ) (fuels : f ≡ fuel_of s.tear) (junks : junk ≡ junk_of s.tear)
-        (lasts : left ≡ f - (2 * length (take (length xs - 0) (drop 0 values)) + 5))
-        (cells : c' ≡ write_cells (fueled junk f (stage_cells at88sc1608 z a (take (length xs - 0) (drop 0 values)))) c) where
-      abbrev us : List Cell
-      us = stage_cells at88sc1608 z a vs
-
-      many : length us ≡ 2 * length vs + 5
-      many = stage_count at88sc1608 z a vs
-
-      fewer : length us < 256
-      fewer = let e = many in let q : length vs ≡ length xs = length_tab _ (length xs) in omega arith
-
-      written_are : c' ≡ write_cells (fueled junk f us) c
-      written_are = cells ∙ ap (λ (ys : List ℕ). write_cells (fueled junk f (stage_cells at88sc1608 z a ys)) c) values_are
-
-      left_are : left ≡ f - length us
-      left_are = lasts ∙ ap (λ (m : ℕ). f - m) (ap (λ (ys : List ℕ). 2 * length ys + 5) values_are ∙ sym many)
+    module _ (f f' : Fuel) (c' : List ℕ) (cells : f.cells ≡ fuel_of s.tear) (junk : f.junk ≡ junk_of s.tear)
+        (w : Writes f (stage_cells at88sc1608 z a (take (length xs) values)) c f' c') where
+      fewer : length (stage_cells at88sc1608 z a vs) < 256
+      fewer = let e = stage_count at88sc1608 z a vs in let q : length vs ≡ length xs = length_tab _ (length xs) in omega arith
 
       abbrev uncut : State
       uncut = make_state s.volatile write_time s.off untorn
@@ -153,6 +125,8 @@ module _ (c : List ℕ) (s : State) (a : ℕ) (xs : List ℕ) where
       is_allowed : may_stage at88sc1608 c s.volatile a ≡ true
       is_allowed = sym right ∙ not-false may allowed
 
-      pub stage_laid : (lost : Bool) → eqb left 0 ≡ lost → (s' : State) (tries : ℕ) → s' ≡ cond lost power_lost uncut → tries ≡ 0
+      pub stage_laid : (lost : Bool) → eqb f'.cells 0 ≡ lost → (s' : State) (tries : ℕ) → s' ≡ cond lost power_lost uncut → tries ≡ 0
           → Performed c s (write_staged a xs) c' s' tries
-      stage_laid = act_laid c s.tear uncut us fewer f junk left fuels junks left_are c' written_are s (write_staged a xs) (stage_is true is_allowed)
+      stage_laid =
+          act_laid c s.tear uncut (stage_cells at88sc1608 z a vs) fewer f f' cells junk c' (rw values_are at w) s (write_staged a xs)
+          (stage_is true is_allowed)

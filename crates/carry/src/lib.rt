@@ -7,8 +7,9 @@ ghost use Rattle.record.specs.DecodedRecord.{asked_by};
 ghost use Rattle.issue.specs.Issued.{Ready, Carried};
 
 use crate::staged::{power_cycle, write_staged};
-use busy::{State, arming, busy_byte, time_left, timed};
+use busy::{State, busy_byte, time_left};
 use issue::issue;
+use kinds::kind::Kind;
 use record::decoder::Head;
 use staging::tear::Tear;
 use timed_security::done::{Done, quiet};
@@ -16,6 +17,7 @@ use timed_security::done::{Done, quiet};
 pub mod staged;
 
 // helper: what a record does that has these first bytes, takes the bytes up to end and is not ignored.
+#[tactic(auto, using(record::specs::DataLaws::between_some), unfolding(record::specs::DecodedRecord::record_of))]
 pub fn carry_out(
     card: &mut [u8],
     state: State,
@@ -28,19 +30,21 @@ pub fn carry_out(
     ensures { Carried card.old (state_of state) (asked_by «record».now end head) response.old
         card.new (state_of result.state) result.tries response.new }
 {
-    let kind = head.kind;
-    match kind {
-        1 => power_cycle(card, state),
-        13 => {
-            let volatile = state.volatile;
-            quiet(timed(state, volatile, time_left(state.busy, head.a)))
-        }
-        14 => {
+    match head.kind() {
+        Kind::PowerCycle => power_cycle(card, state),
+        Kind::Wait => quiet(state.timed(state.volatile, time_left(state.busy, head.a))),
+        Kind::Poll => {
             response[0] = busy_byte(state.busy);
             quiet(state)
         }
-        15 => write_staged(card, state, head.a, &record[3..end]),
-        16 => quiet(arming(state, Tear::After(head.a, head.n))),
+        Kind::WriteStaged => write_staged(card, state, head.a, &record[3..end]),
+        Kind::Arm => {
+            let tear = Tear {
+                cells: head.a,
+                junk: head.n,
+            };
+            quiet(state.arming(Some(tear)))
+        }
         _ => issue(card, state, head, record, end, response),
     }
 }

@@ -1,7 +1,7 @@
 -- Demand 3 said of the code. A run of the code is a list of calls, each of which meets the contract of `command` on the card and in
 -- the state that came out of the call before. Two runs on cards that agree outside the secret places give back the same results
 -- and the same response spaces, call by call.
-use Rattle.std.specs.Prelude.{ℕ, ◌<◌, Bool, true, false, List, [], ◌∷◌, map, ◌≡◌, refl, length}
+use Rattle.std.specs.Prelude.{ℕ, ◌<◌, Bool, true, false, List, [], ◌∷◌, Result, Ok, Err, ◌≡◌, refl, length}
 use Rattle.std.proofs.Common.{sym, ap, ◌∙◌, arith}
 use Rattle.model.specs.Call.{Call, Powered, powered, step}
 use Rattle.model.specs.Call as calls
@@ -18,52 +18,76 @@ use Rattle.secrecy.specs.Secret.{PresentsNeither, AcceptsNot, Throughout, Throug
 use Rattle.secrecy.specs.CardSecrecy as model-claims
 use Rattle.busy.specs.TimedState.{state_of}
 use Rattle.busy.specs.declared.State.{State}
+use Rattle.record.specs.declared.refusal.Refusal.{Refusal}
 use Rattle.command.specs.declared.Reply.{Reply}
-use Rattle.command.specs.Reply.{called_of}
-use Rattle.command.specs.Injective.{outcome_injective, state_injective}
+use Rattle.command.specs.Reply.{called_of, state_after}
+use Rattle.command.specs.Injective.{reply_injective, space_same}
 
 -- what one call gives back: its result, and its response space at exit
 pub record Given : Type 0 where
-  pub reply : Reply
+  pub reply : Result Reply Refusal
   pub space : List ℕ
 
 -- calls, the card and the state that they start with, what each gives back, and the card that they leave
 pub data Run : List Call → List ℕ → State → List Given → List ℕ → Type 0 where
   none : {c : List ℕ} {s : State} → Run [] c s [] c
   one_more : {x : Call} {xs : List Call} {c d e : List ℕ} {s : State} {g : Given} {gs : List Given}
-      → called_of g.reply d g.space ≡ command c (state_of s) x → Run xs d g.reply.state gs e → Run (x ∷ xs) c s (g ∷ gs) e
+      → called_of s g.reply d g.space ≡ command c (state_of s) x → Run xs d (state_after s g.reply) gs e → Run (x ∷ xs) c s (g ∷ gs) e
 
 -- ---- a run of the code is the model's
 
-abbrev reply_of : Given → calls.Reply model.State
-reply_of g = (called_of g.reply [] g.space).reply
+-- the reply of a call that is made in a state, and of calls of which the first is
+abbrev reply_of : State → Given → calls.Reply model.State
+reply_of s g = (called_of s g.reply [] g.space).reply
+
+abbrev replies_of : State → List Given → List (calls.Reply model.State)
+replies_of s [] = []
+replies_of s (g ∷ gs) = reply_of s g ∷ replies_of (state_after s g.reply) gs
+
+same_reply : (s : State) (r : Result Reply Refusal) (d space : List ℕ) → (called_of s r d space).reply ≡ (called_of s r [] space).reply
+same_reply s (Ok r) d space = refl
+same_reply s (Err why) d space = refl
+
+pub next_state : (s : State) (r : Result Reply Refusal) (d space : List ℕ) → state_of (state_after s r) ≡ (called_of s r d space).reply.state
+next_state s (Ok r) d space = refl
+next_state s (Err why) d space = refl
+
+same_card : (s : State) (r : Result Reply Refusal) (d space : List ℕ) → d ≡ (called_of s r d space).card
+same_card s (Ok r) d space = refl
+same_card s (Err why) d space = refl
+
+-- what the next call finds
+pub next_powered : (s : State) (r : Result Reply Refusal) (c d space : List ℕ) (x : Call) → called_of s r d space ≡ command c (state_of s) x
+    → powered d (state_of (state_after s r)) ≡ step check decode act answered_kind (powered c (state_of s)) x
+next_powered s r c d space x call =
+    (λ i. powered (same_card s r d space i) (next_state s r d space i)) ∙ (λ i. powered (call i).card (call i).reply.state)
 
 pub run_model : {xs : List Call} {c e : List ℕ} {s : State} {gs : List Given} → Run xs c s gs e
-    → (map reply_of gs ≡ replies xs (powered c (state_of s))) × (e ≡ (final xs (powered c (state_of s))).card)
+    → (replies_of s gs ≡ replies xs (powered c (state_of s))) × (e ≡ (final xs (powered c (state_of s))).card)
 unfolding calls.replies calls.final
 run_model none = (refl, refl)
 run_model (one_more {x = x} {xs = xs} {c = c} {d = d} {s = s} {g = g} call rest) =
     let ih = run_model rest in
-    let m : powered d (state_of g.reply.state) ≡ step check decode act answered_kind (powered c (state_of s)) x =
-    λ i. record { card = (call i).card; state = (call i).reply.state } in
-    (λ i. (call i).reply ∷ (ih.0 ∙ ap (replies xs) m) i, ih.1 ∙ ap (λ (n : Powered model.State). (final xs n).card) m)
+    let m = next_powered s g.reply c d g.space x call in
+    let r : reply_of s g ≡ (command c (state_of s) x).reply = sym (same_reply s g.reply d g.space) ∙ ap (λ (y : calls.Called model.State). y.reply) call in (
+      λ i. r i ∷ (ih.0 ∙ ap (replies xs) m) i,
+      ih.1 ∙ ap (λ (n : Powered model.State). (final xs n).card) m,
+    )
 
 -- ---- equal in the model, equal in the code
 
-given_injective : (g h : Given) → reply_of g ≡ reply_of h → g ≡ h
-given_injective g h e =
-    let o = outcome_injective g.reply.outcome h.reply.outcome (λ i. (e i).refusal) in
-    let v = state_injective g.reply.state h.reply.state (λ i. (e i).state) in
-    λ i. record { reply = record { outcome = o i; kind = (e i).kind; size = (e i).size; state = v i; tries = (e i).tries }; space = (e i).space }
+given_injective : (s t : State) (g h : Given) → reply_of s g ≡ reply_of t h → g ≡ h
+given_injective s t g h e =
+    λ i. record { reply = reply_injective s t g.reply h.reply g.space h.space e i; space = space_same s t g.reply h.reply g.space h.space e i }
 
-all_injective : (gs hs : List Given) → map reply_of gs ≡ map reply_of hs → gs ≡ hs
-all_injective [] [] e = refl
-all_injective [] (h ∷ hs) e = absurd (let z : ◌≡◌ {A = ℕ} 0 1 = cc in let w : ⊥ = omega arith in w)
-all_injective (g ∷ gs) [] e = absurd (let z : ◌≡◌ {A = ℕ} 0 1 = cc in let w : ⊥ = omega arith in w)
-all_injective (g ∷ gs) (h ∷ hs) e =
-    let p : reply_of g ≡ reply_of h = cc in
-    let q : map reply_of gs ≡ map reply_of hs = cc in
-    λ i. given_injective g h p i ∷ all_injective gs hs q i
+all_injective : (s t : State) (gs hs : List Given) → replies_of s gs ≡ replies_of t hs → gs ≡ hs
+all_injective s t [] [] e = refl
+all_injective s t [] (h ∷ hs) e = absurd (let z : ◌≡◌ {A = ℕ} 0 1 = cc in let w : ⊥ = omega arith in w)
+all_injective s t (g ∷ gs) [] e = absurd (let z : ◌≡◌ {A = ℕ} 0 1 = cc in let w : ⊥ = omega arith in w)
+all_injective s t (g ∷ gs) (h ∷ hs) e =
+    let p : reply_of s g ≡ reply_of t h = cc in
+    let q : replies_of (state_after s g.reply) gs ≡ replies_of (state_after t h.reply) hs = cc in
+    λ i. given_injective s t g h p i ∷ all_injective (state_after s g.reply) (state_after t h.reply) gs hs q i
 
 -- ---- the claims
 
@@ -84,7 +108,7 @@ from_model hidden tear xs b₁ b₂ s gs₁ gs₂ d₁ d₂ e r₁ r₂ w =
     let f₂ : d₂ ≡ (final xs (powered b₂ (powered_up tear))).card = m₂.1 ∙ ap (λ (t : model.State). (final xs (powered b₂ t)).card) e in
     record {
       observed =
-          all_injective gs₁ gs₂
+          all_injective s s gs₁ gs₂
           (m₁.0 ∙ ap (λ (t : model.State). replies xs (powered b₁ t)) e ∙ w.observed ∙ ap (λ (t : model.State). replies xs (powered b₂ t)) (sym e)
           ∙ sym m₂.0);
       long = rw (f₁, f₂) w.long;

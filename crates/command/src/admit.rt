@@ -11,64 +11,51 @@ ghost use Rattle.record.specs.DecodedRecord.{decoded_of};
 ghost use Rattle.record.specs.RefusalNumber.{outcome_number};
 
 use access::rights::is_fuse_byte;
-use access::volatile::{Active, Volatile};
-use busy::{State, is_halted, is_ignored};
-use kinds::answer_length;
+use access::volatile::Volatile;
+use busy::{State, WRITE_TIME, is_halted, is_ignored};
 use record::decoder::{Decoded, Head, decode, head_of};
-use record::refusal::{Outcome, Refusal};
+use record::refusal::Refusal;
 use sizes::{CARD, FUSES};
 use staging::staging_fits;
 
-fn selector_in_range(active: Active) -> bool
+fn selector_in_range(active: Option<u8>) -> bool
     ensures { result ≡ model.active_below 16 (active_of active) }
 {
-    match active {
-        Active::None => true,
-        Active::Selector(k) => k < 16,
-    }
+    active.is_none_or(|k| k < 16)
 }
 
 fn volatile_in_range(state: Volatile) -> bool
     ensures { result ≡ model.volatile_in_range at88sc1608 (volatile_of state) }
 {
-    let zone = state.zone.0;
-    if zone < 8 {
-        let active = state.active;
-        return selector_in_range(active);
-    }
-    false
+    state.zone.0 < 8 && selector_in_range(state.active)
 }
 
 fn state_in_range(state: State) -> bool
     ensures { result ≡ model.state_in_range at88sc1608 (state_of state) }
 {
-    let volatile = state.volatile;
-    if volatile_in_range(volatile) {
-        return state.busy <= 10;
-    }
-    false
+    volatile_in_range(state.volatile) && state.busy <= WRITE_TIME
 }
 
 // The checks of the card and the state.
-pub fn check(card: &[u8], state: State) -> Outcome
+pub fn check(card: &[u8], state: State) -> Result<(), Refusal>
     ensures { outcome_number result ≡ model.check card.now (state_of state) }
 {
     if card.len() != CARD {
-        return Outcome::Refused(Refusal::CardLength);
+        return Err(Refusal::CardLength);
     }
     let fuses = is_fuse_byte(card[FUSES]);
     let staging = staging_fits(card, 0);
     let range = state_in_range(state);
     if !fuses {
-        return Outcome::Refused(Refusal::FuseByte);
+        return Err(Refusal::FuseByte);
     }
     if !staging {
-        return Outcome::Refused(Refusal::StagingBytes);
+        return Err(Refusal::StagingBytes);
     }
     if !range {
-        return Outcome::Refused(Refusal::StateOutOfRange);
+        return Err(Refusal::StateOutOfRange);
     }
-    Outcome::Accepted
+    Ok(())
 }
 
 // How much is to be written in answer to a record with these first bytes: nothing where it is ignored.
@@ -80,28 +67,22 @@ fn needed(halted: bool, busy: u8, head: Head) -> usize
     if is_ignored(halted, busy, head.kind) {
         return 0;
     }
-    answer_length(head.kind, head.n) as usize
+    head.kind().answer_length(head.n) as usize
 }
 
-// A refusal, or the record that the call carries out and its length.
-pub fn admit(card: &[u8], state: State, record: &[u8], room: usize) -> Decoded
+// The record that the call carries out, and its length.
+pub fn admit(card: &[u8], state: State, record: &[u8], room: usize) -> Result<Decoded, Refusal>
     ensures { decoded_of «record».now result ≡ model.admission card.now (state_of state) «record».now room }
 {
-    if let Outcome::Refused(why) = check(card, state) {
-        return Decoded::Refused(why);
+    check(card, state)?;
+    let decoded = decode(record)?;
+    if decoded.length < record.len() {
+        return Err(Refusal::BytesLeft);
     }
-    match decode(record) {
-        Decoded::Refused(why) => Decoded::Refused(why),
-        Decoded::Whole(kind, end) => {
-            if end < record.len() {
-                return Decoded::Refused(Refusal::BytesLeft);
-            }
-            let head = head_of(record);
-            let halted = is_halted(card, state.power.off);
-            if room < needed(halted, state.busy, head) {
-                return Decoded::Refused(Refusal::NoSpace);
-            }
-            Decoded::Whole(kind, end)
-        }
+    let head = head_of(record);
+    let halted = is_halted(card, state.power.off);
+    if room < needed(halted, state.busy, head) {
+        return Err(Refusal::NoSpace);
     }
+    Ok(decoded)
 }

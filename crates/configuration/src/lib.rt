@@ -7,11 +7,11 @@ ghost use Rattle.model.specs.Sizes.{card_size};
 ghost use Rattle.model.specs.Lists.{at};
 ghost use Rattle.model.specs.Instruction.{read_configuration, write_configuration};
 ghost use Rattle.model.specs.Single.{apply};
-ghost use Rattle.access.specs.Column.{column_allows};
-ghost use Rattle.access.specs.VolatileState.{active_of, volatile_of};
+ghost use Rattle.access.specs.Column.{allows_of};
+ghost use Rattle.access.specs.VolatileState.{volatile_of};
 
-use access::rights::{column, configuration_allows};
-use access::volatile::{Active, Volatile};
+use access::rights::{Access, Column};
+use access::volatile::Volatile;
 use sizes::{CONFIGURATION, FUSES};
 
 pub mod page;
@@ -19,15 +19,13 @@ pub mod reset;
 pub mod reversal;
 
 // The byte at a configuration address as it is answered: $00 where it may not be read.
-fn shown(card: &[u8], codes: &[u8; 7], active: Active, address: u8) -> u8
+fn shown(card: &[u8], column: &Column, address: u8) -> u8
     requires { (length card.now ≡ card_size) × (address < 128) }
-    ensures { result ≡ cond (column_allows codes.now address (active_of active)) (at card.now (configuration_at + address)) 0 }
+    ensures { result
+        ≡ cond (allows_of column.now address) (at card.now (configuration_at + address)) 0 }
 {
     let byte = card[CONFIGURATION + address as usize];
-    if configuration_allows(codes, address, active) {
-        return byte;
-    }
-    0
+    if column.allows(address) { byte } else { 0 }
 }
 
 // helper: read configuration.
@@ -42,12 +40,9 @@ pub fn read_configuration(
     ensures { response.new
         ≡ (apply card.now (volatile_of state) (read_configuration address count)).report.answer ++ drop count response.old }
 {
-    let codes = column(0, card[FUSES]);
-    let active = state.active;
-    let mut i = 0;
-    while i < count {
-        response[i] = shown(card, &codes, active, address + i as u8);
-        i += 1;
+    let column = Column::new(Access::Read, card[FUSES], state.active);
+    for (i, byte) in response[..count].iter_mut().enumerate() {
+        *byte = shown(card, &column, address + i as u8);
     }
 }
 
@@ -56,11 +51,9 @@ pub fn write_configuration(card: &mut [u8], state: Volatile, address: u8, bytes:
     requires { (length card.old ≡ card_size) × (address < 128) }
     ensures { card.new ≡ (apply card.old (volatile_of state) (write_configuration address bytes.now)).card }
 {
-    let codes = column(1, card[FUSES]);
+    let column = Column::new(Access::Write, card[FUSES], state.active);
     let first = address / 16 * 16;
     let base = CONFIGURATION + first as usize;
-    let end = base + 16;
     let low = address as usize % 16;
-    let active = state.active;
-    page::store_allowed(&mut card[base..end], first, low, bytes, &codes, active);
+    page::store_allowed(&mut card[base..base + 16], first, low, bytes, &column);
 }

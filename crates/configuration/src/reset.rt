@@ -6,7 +6,7 @@ ghost use Rattle.model.specs.Single.{apply};
 ghost use Rattle.access.specs.VolatileState.{volatile_of};
 
 use crate::reversal::reverse;
-use access::volatile::{Active, Authentication, Volatile, activating, authenticating};
+use access::volatile::{Authentication, Volatile};
 use sizes::CONFIGURATION;
 
 // helper: the four bytes from $00 on, each sent with its lowest bit first.
@@ -15,7 +15,6 @@ pub fn answer_to_reset(card: &[u8], state: Volatile, response: &mut [u8]) -> Vol
     ensures state { volatile_of result ≡ (apply card.now (volatile_of state) reset).report.state }
     ensures answer { response.new ≡ (apply card.now (volatile_of state) reset).report.answer ++ drop 4 response.old }
 {
-    reverse(card, CONFIGURATION, 4, response);
-    let unlocked = activating(state, Active::None);
-    authenticating(unlocked, Authentication::Idle)
+    reverse(&card[CONFIGURATION..CONFIGURATION + 4], response);
+    state.activating(None).authenticating(Authentication::Idle)
 }

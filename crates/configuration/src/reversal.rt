@@ -1,9 +1,9 @@
 // The reversal of a byte's bits.
-ghost use Rattle.std.specs.Prelude.{◌≡◌, ◌++◌, ◌+◌, ◌≤◌, length, drop};
+ghost use Rattle.std.specs.Prelude.{◌≡◌, ◌++◌, ◌≤◌, length, drop};
 ghost use Rattle.model.specs.Lists.{at, tab};
 ghost use Rattle.model.specs.Bits.{reversed};
 
-// Entry b is byte b with its bits in the other order.
+// Entry b is byte b with its bits in the other order: the library's reverse_bits takes eight turns for a byte.
 const REVERSED: [u8; 256] = [
     0, 128, 64, 192, 32, 160, 96, 224, 16, 144, 80, 208, 48, 176, 112, 240, 8, 136, 72, 200, 40,
     168, 104, 232, 24, 152, 88, 216, 56, 184, 120, 248, 4, 132, 68, 196, 36, 164, 100, 228, 20,
@@ -20,17 +20,14 @@ const REVERSED: [u8; 256] = [
     239, 31, 159, 95, 223, 63, 191, 127, 255,
 ];
 
-// helper: count bytes of one slice from a place on, each reversed, at the front of another.
+// helper: the bytes of one slice, each reversed, at the front of another.
 // Each use of the table copies it, so it is named once.
-pub fn reverse(from: &[u8], start: usize, count: usize, to: &mut [u8])
-    requires { (start + count ≤ length from.now) × (count ≤ length to.old) }
-    ensures { to.new ≡ tab (λ k. reversed (at from.now (start + k))) count ++ drop count to.old }
+pub fn reverse(from: &[u8], to: &mut [u8])
+    requires { length from.now ≤ length to.old }
+    ensures { to.new ≡ tab (λ k. reversed (at from.now k)) (length from.now) ++ drop (length from.now) to.old }
 {
     let table = REVERSED;
-    let mut i = 0;
-    while i < count {
-        let byte = from[start + i] as usize;
-        to[i] = table[byte];
-        i += 1;
+    for (i, byte) in from.iter().enumerate() {
+        to[i] = table[*byte as usize];
     }
 }

@@ -6,6 +6,13 @@ use mathlib.Core.Path.{◌≡◌, refl, sym, ap, ◌∙◌}
 use native.Mathlib.Omega.{arith}
 use lib.Dec.{eqb}
 use lib.ListN.{length}
+use Rattle.std.specs.Prelude.{Result, Ok, Err, IfOk, is_ok}
+use Rattle.busy.specs.declared.State as code
+use Rattle.command.specs.declared.Reply.{Reply}
+use Rattle.command.specs.Reply.{called_of}
+use Rattle.session.specs.Run.{ran_of}
+use Rattle.writer.specs.Writing.{written_of}
+use Rattle.record.specs.declared.refusal.Refusal.{Refusal}
 use Rattle.model.specs.Sizes.{card_size, fuse_at, greatest_session, most_records}
 use Rattle.model.specs.Lists.{at, Bytes}
 use Rattle.model.specs.Call.{Called, calling}
@@ -25,6 +32,16 @@ use Rattle.results.specs.Results.{run_result, command_result, mend_result}
 use Rattle.exports.specs.Lengths.{response_small, run_small, box_run_small, answer_small, writing_small, mending_small}
 use Rattle.state_bytes.specs.StateBytes.{is_state, state_of, state_after}
 use Rattle.state_bytes.specs.StateLaws.{state_long, state_range}
+
+-- ---- a result with a length
+
+pub within : (r : Result ℕ Refusal) (space : List ℕ) (m : ℕ) → (ran_of r space).size ≤ m → IfOk r (λ n. n ≤ m)
+within (Ok n) space m h = h
+within (Err why) space m h = tt
+
+pub written_within : (r : Result ℕ Refusal) (space : List ℕ) (m : ℕ) → (written_of r space).size ≤ m → IfOk r (λ n. n ≤ m)
+written_within (Ok n) space m h = h
+written_within (Err why) space m h = tt
 
 -- ---- a session
 
@@ -97,6 +114,13 @@ module _ (c b sent space : List ℕ) (v : State) (read : v ≡ state_of b) (x : 
       → b' ≡ state_after x.reply.refusal x.reply.state b
       → command_call r x.card b' x.reply.space ≡ exported_command c b sent space
   command_told r b' e w = (λ i. command_call (e i) x.card (w i) x.reply.space) ∙ ap (told_command b) same
+
+-- the state after a call is written where it was accepted
+pub still_long : (s : code.State) (r : Result Reply Refusal) (card space : List ℕ) (after : Result code.State Refusal) (long : Type 0)
+    → is_ok after ≡ is_ok r → ((called_of s r card space).reply.refusal ≡ 0 → long) → IfOk after (λ _. long)
+still_long s r card space (Err why) long e f = tt
+still_long s (Ok r) card space (Ok after) long e f = f refl
+still_long s (Err because) card space (Ok after) long e f = absurd (let z : true ≡ false = e in cc)
 
 -- ---- a session that is written
 

@@ -12,10 +12,9 @@ use box_run::box_run;
 use command::command;
 use mender::mend;
 use mender::search::mend_by_search;
-use record::refusal::Outcome;
 use results::{answer_number, command_number, mend_number, result_number};
 use session::run;
-use session_log::find::{Found, fetch};
+use session_log::find::fetch;
 use state_bytes::{read_state, write_state};
 use writer::write_session;
 
@@ -24,9 +23,7 @@ use writer::write_session;
 pub extern "C" fn at88sc1608_run(session: &[u8], log: &mut [u8]) -> u64
     ensures { run_call result log.new ≡ exported_run session.now log.old }
 {
-    let ran = run(session, log);
-    let outcome = ran.outcome;
-    result_number(outcome, ran.size)
+    result_number(run(session, log))
 }
 
 // The same in the box.
@@ -34,9 +31,7 @@ pub extern "C" fn at88sc1608_run(session: &[u8], log: &mut [u8]) -> u64
 pub extern "C" fn at88sc1608_box_run(session: &[u8], log: &mut [u8]) -> u64
     ensures { run_call result log.new ≡ exported_box_run session.now log.old }
 {
-    let boxed = box_run(session, log);
-    let outcome = boxed.outcome;
-    result_number(outcome, boxed.size)
+    result_number(box_run(session, log))
 }
 
 // One command: the refusal's number, or 0, 2^8 times the response's length, 2^24 times the tries left and 2^32 times the kind that is
@@ -52,11 +47,12 @@ pub extern "C" fn at88sc1608_command(
         ≡ exported_command card.old state.old «record».now response.old }
 {
     let before = read_state(state);
-    let reply = command(card, before, record, response);
-    let outcome = reply.outcome;
-    let after = reply.state;
-    write_state(state, outcome, after);
-    command_number(outcome, reply.size, reply.tries, reply.kind)
+    let replied = command(card, before, record, response);
+    write_state(state, replied.map(|reply| reply.state));
+    match replied {
+        Ok(reply) => command_number(Ok(reply.size), reply.tries, reply.kind),
+        Err(why) => command_number(Err(why), 0, 0),
+    }
 }
 
 // An answer of a log, from 0: the refusal's number, or 0, 2^8 times its length, 2^24 times the entry headers that were read and 2^40 times
@@ -66,10 +62,9 @@ pub extern "C" fn at88sc1608_answer(log: &[u8], number: u64) -> u64
     ensures { result ≡ exported_answer (model.fetch log.now number) }
 {
     let fetched = fetch(log, number as usize);
-    let found = fetched.found;
-    match found {
-        Found::Refused(why) => answer_number(Outcome::Refused(why), 0, fetched.headers, 0),
-        Found::At(from, length) => answer_number(Outcome::Accepted, length, fetched.headers, from),
+    match fetched.found {
+        Ok(place) => answer_number(Ok((place.from, place.length)), fetched.headers),
+        Err(why) => answer_number(Err(why), fetched.headers),
     }
 }
 
@@ -85,9 +80,7 @@ pub extern "C" fn at88sc1608_write_session(
     ensures { run_call result session.new
         ≡ exported_writing (parts card.now title.now records.now count) session.old }
 {
-    let written = write_session(card, title, records, count as usize, session);
-    let outcome = written.outcome;
-    result_number(outcome, written.size)
+    result_number(write_session(card, title, records, count as usize, session))
 }
 
 // A session mended in place: the refusal's number, or 0, 2^8 times the count of its records and 2^32 times where they start.
@@ -95,9 +88,10 @@ pub extern "C" fn at88sc1608_write_session(
 pub extern "C" fn at88sc1608_mend(session: &mut [u8]) -> u64
     ensures { run_call result session.new ≡ exported_mending session.old }
 {
-    let mended = mend(session);
-    let outcome = mended.outcome;
-    mend_number(outcome, mended.count, mended.start)
+    match mend(session) {
+        Ok(mended) => mend_number(Ok((mended.count, mended.start))),
+        Err(why) => mend_number(Err(why)),
+    }
 }
 
 // The same by trying every start in turn, which can take seconds; to compare with.
@@ -105,7 +99,8 @@ pub extern "C" fn at88sc1608_mend(session: &mut [u8]) -> u64
 pub extern "C" fn at88sc1608_mend_by_search(session: &mut [u8]) -> u64
     ensures { run_call result session.new ≡ exported_mending session.old }
 {
-    let searched = mend_by_search(session);
-    let outcome = searched.outcome;
-    mend_number(outcome, searched.count, searched.start)
+    match mend_by_search(session) {
+        Ok(searched) => mend_number(Ok((searched.count, searched.start))),
+        Err(why) => mend_number(Err(why)),
+    }
 }

@@ -15,8 +15,5 @@ pub fn names_zone(kind: u8) -> bool
 pub fn header_length(kind: u8) -> usize
     ensures { result ≡ model.header_length model.zoned kind }
 {
-    if names_zone(kind) {
-        return 4;
-    }
-    3
+    if names_zone(kind) { 4 } else { 3 }
 }

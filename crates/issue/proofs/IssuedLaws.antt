@@ -1,10 +1,12 @@
 -- What a record leaves that is a command and is not ignored, from what the command leaves with its time and what stands in the response space.
-use Prim.Native.Nat.{ℕ, suc, ◌≤◌}
+use Prim.Native.Nat.{ℕ, ◌≤◌}
 use mathlib.Core.List.{List, ◌++◌}
-use mathlib.Core.Path.{◌≡◌, sym, ◌∙◌}
-use native.Mathlib.Nat.{le_antisymm}
+use mathlib.Core.Path.{◌≡◌, refl, sym, ◌∙◌}
 use native.Mathlib.Omega.{arith}
 use lib.ListN.{drop}
+use Rattle.kinds.specs.declared.kind.Kind.{Kind}
+use Rattle.kinds.specs.declared.kind.Kind.TheVariants as kind
+use Rattle.kinds.specs.KindNumber.{kind_number}
 use Rattle.model.specs.Instruction.{Command, issue}
 use Rattle.model.specs.At88sc1608.{at88sc1608}
 use Rattle.model.specs.State.{State}
@@ -28,14 +30,23 @@ module _ (c : List ℕ) (s : State) (space : List ℕ) where
       answered k c' s' tries space w (sym (λ i. e i ++ drop (z i) space))
 
 -- the last of the commands: none of the others
-next : (n k : ℕ) → n ≤ k → (k ≡ n → ⊥) → suc n ≤ k
-next n k l ne = omega arith
-
-pub last_kind : (k : ℕ) → 2 ≤ k → k ≤ 12
-    → ((((((((((Unit {0} × (k ≡ 2 → ⊥)) × (k ≡ 3 → ⊥)) × (k ≡ 4 → ⊥)) × (k ≡ 5 → ⊥)) × (k ≡ 6 → ⊥)) × (k ≡ 7 → ⊥)) × (k ≡ 8 → ⊥)) × (k ≡ 9 → ⊥))
-    × (k ≡ 10 → ⊥)) × (k ≡ 11 → ⊥)) → k ≡ 12
-last_kind k l m r =
-    le_antisymm m
-    (next 11 k (next 10 k (next 9 k
-    (next 8 k (next 7 k (next 6 k (next 5 k (next 4 k (next 3 k (next 2 k l r.0.0.0.0.0.0.0.0.0.1) r.0.0.0.0.0.0.0.0.1)
-    r.0.0.0.0.0.0.0.1) r.0.0.0.0.0.0.1) r.0.0.0.0.0.1) r.0.0.0.0.1) r.0.0.0.1) r.0.0.1) r.0.1) r.1)
+module _ (n : ℕ) (low : 2 ≤ n) (high : n ≤ 12) where
+  pub last_kind : (k : Kind) → kind_number k ≡ n → (k ≡ kind.Reset → ⊥) → (k ≡ kind.Select → ⊥) → (k ≡ kind.ReadZone → ⊥) → (k ≡ kind.WriteZone → ⊥)
+      → (k ≡ kind.ReadConfiguration → ⊥) → (k ≡ kind.WriteConfiguration → ⊥) → (k ≡ kind.ReadFuses → ⊥) → (k ≡ kind.WriteFuses → ⊥) → (k ≡
+      kind.VerifyPassword → ⊥) → (k ≡ kind.BeginAuthentication → ⊥) → n ≡ 12
+  last_kind kind.PowerCycle e b c d f g h i j l m = omega arith
+  last_kind kind.Reset e b c d f g h i j l m = absurd (b refl)
+  last_kind kind.Select e b c d f g h i j l m = absurd (c refl)
+  last_kind kind.ReadZone e b c d f g h i j l m = absurd (d refl)
+  last_kind kind.WriteZone e b c d f g h i j l m = absurd (f refl)
+  last_kind kind.ReadConfiguration e b c d f g h i j l m = absurd (g refl)
+  last_kind kind.WriteConfiguration e b c d f g h i j l m = absurd (h refl)
+  last_kind kind.ReadFuses e b c d f g h i j l m = absurd (i refl)
+  last_kind kind.WriteFuses e b c d f g h i j l m = absurd (j refl)
+  last_kind kind.VerifyPassword e b c d f g h i j l m = absurd (l refl)
+  last_kind kind.BeginAuthentication e b c d f g h i j l m = absurd (m refl)
+  last_kind kind.VerifyAuthentication e b c d f g h i j l m = sym e
+  last_kind kind.Wait e b c d f g h i j l m = omega arith
+  last_kind kind.Poll e b c d f g h i j l m = omega arith
+  last_kind kind.WriteStaged e b c d f g h i j l m = omega arith
+  last_kind kind.Arm e b c d f g h i j l m = omega arith

@@ -8,10 +8,11 @@ ghost use Rattle.busy.specs.TimedState.{state_of};
 ghost use Rattle.record.specs.DecodedRecord.{asked_by};
 ghost use Rattle.issue.specs.Issued.{Ready, Carried};
 
-use access::volatile::{Zone, selecting};
+use access::volatile::Zone;
 use busy::State;
 use configuration::reset::answer_to_reset;
 use configuration::{read_configuration, write_configuration};
+use kinds::kind::Kind;
 use kinds::read_count;
 use memory::zone::{read_zone, write_zone};
 use record::decoder::Head;
@@ -41,11 +42,10 @@ pub fn issue(
         card.new (state_of result.state) result.tries response.new }
 {
     let volatile = state.volatile;
-    let kind = head.kind;
-    match kind {
-        2 => settled(state, answer_to_reset(card, volatile, response), false),
-        3 => settled(state, selecting(volatile, Zone(head.a)), false),
-        4 => {
+    match head.kind() {
+        Kind::Reset => settled(state, answer_to_reset(card, volatile, response), false),
+        Kind::Select => settled(state, volatile.selecting(Zone(head.a)), false),
+        Kind::ReadZone => {
             read_zone(
                 card,
                 volatile,
@@ -55,25 +55,25 @@ pub fn issue(
             );
             settled(state, volatile, false)
         }
-        5 => {
+        Kind::WriteZone => {
             write_zone(card, volatile, head.a, &record[3..end]);
             settled(state, volatile, true)
         }
-        6 => {
+        Kind::ReadConfiguration => {
             read_configuration(card, volatile, head.a, head.n as usize, response);
             settled(state, volatile, false)
         }
-        7 => {
+        Kind::WriteConfiguration => {
             write_configuration(card, volatile, head.a, &record[3..end]);
             settled(state, volatile, true)
         }
-        8 => {
+        Kind::ReadFuses => {
             read_fuses(card, response);
             settled(state, volatile, false)
         }
-        9 => blow_fuse(card, state),
-        10 => present(card, state, head.a, &record[2..end]),
-        11 => begin(card, state),
+        Kind::WriteFuses => blow_fuse(card, state),
+        Kind::VerifyPassword => present(card, state, head.a, &record[2..end]),
+        Kind::BeginAuthentication => begin(card, state),
         _ => judge(card, state, head.a == 1, &record[2..end]),
     }
 }

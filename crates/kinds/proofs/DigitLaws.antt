@@ -1,18 +1,15 @@
 -- The columns of digits: what the code takes from a digit, or from the count, is what the model says of the kind.
 use Prim.Native.Nat.{ℕ, ◌+◌, ◌*◌, ◌/◌, ◌%◌, ◌^◌, ◌≤◌, ◌<◌}
-use mathlib.Core.Bool.{Bool, true, false, cond, not, ◌&&◌, ◌||◌}
-use mathlib.Core.List.{[]}
+use mathlib.Core.Bool.{Bool, true, false, not, ◌&&◌, ◌||◌}
 use mathlib.Core.Path.{◌≡◌, refl, sym}
 use native.Mathlib.Omega.{arith}
 use borrow.Author.Tests.{eqb-true, eq-eqb, le-leb, leb-true}
 use lib.Dec.{leb, eqb}
-use Rattle.model.specs.At88sc1608.{at88sc1608}
-use Rattle.laws.specs.BusyLaws.{full_answer}
-use Rattle.model.specs.Record.{kinds, fixed_fields, in_range, data_length, made, length_fits}
+use Rattle.model.specs.Record.{kinds, fixed_fields, in_range, data_length}
 use Rattle.laws.specs.BoolLaws.{and_left, and_right}
 use Rattle.laws.specs.KindLaws.{each_kind, within_known}
 
-abbrev digit_of : ℕ → ℕ → ℕ
+abbrev pub digit_of : ℕ → ℕ → ℕ
 digit_of digits k = digits / 2 ^ (k % 16 * 4) % 16
 
 pub fields_digit : (k : ℕ) → (1 ≤ k) × (k ≤ 16) → digit_of 0x2011010022221002 k ≡ fixed_fields k
@@ -36,22 +33,6 @@ module _ (n : ℕ) (short : n < 256) where
       (none_left 1) (none_left 1) (none_left 2) (none_left 3) (all_left 3) (none_left 3) (all_left 3) (none_left 1)
       (none_left 1) (none_left 5) (none_left 1) (none_left 10) (none_left 2) (none_left 1) (all_left 3) (none_left 3)
       k (within_known k h)
-
-pub answer_digit : (n k : ℕ) → (1 ≤ k) × (k ≤ 16)
-    → cond (eqb k 6) n (cond (eqb k 4) (cond (eqb n 0) 256 n) (digit_of 0x100000100000400 k)) ≡ full_answer at88sc1608 (made k 0 n [])
-unfolding kinds made
-answer_digit n k h =
-    each_kind (λ k. cond (eqb k 6) n (cond (eqb k 4) (cond (eqb n 0) 256 n) (digit_of 0x100000100000400 k)) ≡ full_answer at88sc1608 (made k 0 n []))
-    refl refl refl refl refl refl refl refl refl refl refl refl refl refl refl refl k (within_known k h)
-
--- the lengths of answers in a log
-pub fits_digit : (n k : ℕ) → (1 ≤ k) × (k ≤ 16)
-    → cond (eqb k 4) (leb 1 n && leb n 256) (cond (eqb k 6) (leb 1 n && leb n 128) (eqb n (digit_of 0x100000100000400 k))) ≡ length_fits k n
-unfolding kinds length_fits
-fits_digit n k h =
-    each_kind
-    (λ k. cond (eqb k 4) (leb 1 n && leb n 256) (cond (eqb k 6) (leb 1 n && leb n 128) (eqb n (digit_of 0x100000100000400 k))) ≡ length_fits k n)
-    refl refl refl refl refl refl refl refl refl refl refl refl refl refl refl refl k (within_known k h)
 
 -- ---- the range of the fixed fields
 
@@ -133,10 +114,10 @@ module _ (a n : ℕ) (small : a < 256) (short : n < 256) where
   configuration : eqb (less_one n / 128) 0 ≡ (leb 1 n && leb n 128)
   configuration = counts 128 128 n (λ e. (omega arith, omega arith)) (λ h. let l = h.0 in let m = h.1 in omega arith)
 
-  pub range_digit : (k : ℕ) → (1 ≤ k) × (k ≤ 16) → (timed k a && (inside k a n && fits k a n)) ≡ in_range k a n
+  pub range_digit : (k : ℕ) → (1 ≤ k) × (k ≤ 16) → ((timed k a && inside k a n) && fits k a n) ≡ in_range k a n
   unfolding kinds in_range
   range_digit k h =
-      each_kind (λ k. (timed k a && (inside k a n && fits k a n)) ≡ in_range k a n)
+      each_kind (λ k. ((timed k a && inside k a n) && fits k a n) ≡ in_range k a n)
       (rw (no_sum (a / 256) (less_one n / 256), byte, uncounted))
       (rw (no_sum (a / 256) (less_one n / 256), byte, uncounted))
       (rw (no_sum (a / 8) (less_one n / 256), three_bits a, uncounted) (and_true _))
@@ -150,7 +131,7 @@ module _ (a n : ℕ) (small : a < 256) (short : n < 256) where
       (rw (no_sum (a / 16) (less_one n / 256), four_bits a, uncounted) (and_true _))
       (rw (no_sum (a / 256) (less_one n / 256), byte, uncounted))
       (rw (no_sum (a / 2) (less_one n / 256), one_bit a, uncounted) (and_true _))
-      (rw (no_sum (a / 256) (less_one n / 256), byte, uncounted, le-leb a 255 (omega arith)))
+      (rw (no_sum (a / 256) (less_one n / 256), byte, uncounted, le-leb a 255 (omega arith)) (and_true _))
       (rw (no_sum (a / 256) (less_one n / 256), byte, uncounted))
       (rw (no_sum (a / 256) (less_one n / 8), byte, eight))
       (rw (no_sum (a / 256) (less_one n / 256), byte, uncounted))

@@ -1,1 +1,2 @@
 pub mod DigitLaws
+pub mod NamedLaws

@@ -5,12 +5,16 @@ ghost use Rattle.std.specs.Prelude.{◌≡◌, cond, ◌&&◌, [], ◌+◌, ◌*
 ghost use Rattle.model.specs.At88sc1608.{at88sc1608};
 ghost use Rattle.model.specs.Record as model;
 ghost use Rattle.laws.specs.BusyLaws.{full_answer};
+ghost use Rattle.kinds.specs.KindNumber.{kind_number};
 
-use access::rights::either;
+use crate::kind::Kind;
+
+pub mod kind;
 
 // A hexadecimal digit for each kind: a column of this table, read downwards, is a constant. The lowest digit, which no kind 0 needs, is that
 // of kind 16. A count less one has the bits of the third column. A record has the bytes of the fourth, and as many data bytes as are left of the
 // count when it is shifted by the fifth: all of it, or nothing. Where n stands the count says how long the answer is, and the digit is not used.
+// Digits of a number, and no array or match: a shift takes one out of a register, without a branch and without a read of memory.
 //
 //                               fixed     bits of the    bits of    least      shift of     answer
 //   kind                        fields    first field    a count    bytes      the count    bytes
@@ -42,100 +46,70 @@ const COUNT_SHIFT: u64 = 0x0888_8888_0808_8888;
 
 const ANSWER_BYTES: u64 = 0x0100_0001_0000_0400;
 
-pub fn both(a: bool, b: bool) -> bool
-    ensures { result ≡ (a && b) }
-{
-    if a {
-        return b;
-    }
-    false
-}
-
-fn chosen(first: bool, a: usize, b: usize) -> usize
-    ensures { result ≡ cond first a b }
-{
-    if first {
-        return a;
-    }
-    b
-}
-
-// Whether a kind byte is that of a kind.
-pub fn is_known(kind: u8) -> bool
-    ensures { result ≡ model.known kind }
-{
-    both(kind != 0, kind <= 16)
-}
-
 // The digit of a kind in a column.
-fn digit(column: u64, kind: u8) -> usize
-    ensures { result ≡ column / 2 ^ (kind % 16 * 4) % 16 }
+fn digit(column: u64, kind: Kind) -> usize
+    ensures { result ≡ column / 2 ^ (kind_number kind % 16 * 4) % 16 }
 {
-    let from = column >> (kind % 16 * 4);
+    let from = column >> (u8::from(kind) % 16 * 4);
     (from % 16) as usize
-}
-
-// helper: how many fixed fields a kind has.
-pub fn fixed_fields(kind: u8) -> usize
-    requires { (1 ≤ kind) × (kind ≤ 16) }
-    ensures { result ≡ model.fixed_fields kind }
-{
-    digit(FIXED_FIELDS, kind)
-}
-
-// helper: whether the fixed fields are in range. A wait of no time is not, nor a read past the configuration's 128 bytes.
-pub fn in_range(kind: u8, a: u8, n: u8) -> bool
-    requires { (1 ≤ kind) × (kind ≤ 16) }
-    ensures { result ≡ model.in_range kind a n }
-{
-    let above = a as usize >> digit(FIRST_FIELD_BITS, kind);
-    let less_one = (n as usize + 255) % 256;
-    let over = less_one >> digit(COUNT_BITS, kind);
-    let timed = either(kind != 13, 1 <= a);
-    let inside = either(kind != 6, a as usize + n as usize <= 128);
-    both(timed, both(inside, above + over == 0))
-}
-
-// helper: how long a record is.
-pub fn record_length(kind: u8, n: u8) -> usize
-    requires { (1 ≤ kind) × (kind ≤ 16) }
-    ensures { result ≡ 1 + model.fixed_fields kind + model.data_length kind n }
-{
-    let least = digit(LEAST_BYTES, kind);
-    let data = n as usize >> digit(COUNT_SHIFT, kind);
-    least + data
 }
 
 // How many bytes a zone read asks for: 0 stands for 256.
 pub fn read_count(n: u8) -> u16
     ensures { result ≡ cond (eqb n 0) 256 n }
 {
-    if n == 0 {
-        return 256;
-    }
-    n as u16
+    if n == 0 { 256 } else { n as u16 }
 }
 
-// helper: how long the answer in full is, on which the first field and the data have no bearing.
-pub fn answer_length(kind: u8, n: u8) -> u16
-    requires { (1 ≤ kind) × (kind ≤ 16) }
-    ensures { result ≡ full_answer at88sc1608 (model.made kind 0 n []) }
-{
-    let uncounted = digit(ANSWER_BYTES, kind);
-    let zone = chosen(kind == 4, read_count(n) as usize, uncounted);
-    chosen(kind == 6, n as usize, zone) as u16
-}
+impl Kind {
+    // How many fixed fields a kind has.
+    pub fn fixed_fields(self) -> usize
+        ensures { result ≡ model.fixed_fields (kind_number self) }
+    {
+        digit(FIXED_FIELDS, self)
+    }
 
-// helper: whether a response can be this long.
-pub fn length_fits(kind: u8, response: usize) -> bool
-    requires { (1 ≤ kind) × (kind ≤ 16) }
-    ensures { result ≡ model.length_fits kind response }
-{
-    if kind == 4 {
-        return both(1 <= response, response <= 256);
+    // Whether the fixed fields are in range. A wait of no time is not, nor a read past the configuration's 128 bytes. By & and | for it is
+    // asked of every record: && and || would branch.
+    pub fn in_range(self, a: u8, n: u8) -> bool
+        ensures { result ≡ model.in_range (kind_number self) a n }
+    {
+        let above = a as usize >> digit(FIRST_FIELD_BITS, self);
+        let less_one = (n as usize + 255) % 256;
+        let over = less_one >> digit(COUNT_BITS, self);
+        let timed = (self != Kind::Wait) | (1 <= a);
+        let inside = (self != Kind::ReadConfiguration) | (a as usize + n as usize <= 128);
+        timed & inside & (above + over == 0)
     }
-    if kind == 6 {
-        return both(1 <= response, response <= 128);
+
+    // How long a record is.
+    pub fn record_length(self, n: u8) -> usize
+        ensures { result ≡ 1 + model.fixed_fields (kind_number self) + model.data_length (kind_number self) n }
+    {
+        let least = digit(LEAST_BYTES, self);
+        let data = n as usize >> digit(COUNT_SHIFT, self);
+        least + data
     }
-    response == digit(ANSWER_BYTES, kind)
+
+    // How long the answer in full is, on which the first field and the data have no bearing.
+    pub fn answer_length(self, n: u8) -> u16
+        ensures { result ≡ full_answer at88sc1608 (model.made (kind_number self) 0 n []) }
+    {
+        match self {
+            Kind::ReadZone => read_count(n),
+            Kind::ReadConfiguration => n as u16,
+            _ => digit(ANSWER_BYTES, self) as u16,
+        }
+    }
+
+    // Whether a response can be this long.
+    pub fn length_fits(self, response: usize) -> bool
+        ensures { result ≡ model.length_fits (kind_number self) response }
+    {
+        match self {
+            Kind::ReadZone => (1..=256).contains(&response),
+            Kind::ReadConfiguration => (1..=128).contains(&response),
+            _ => response == digit(ANSWER_BYTES, self),
+        }
+    }
 }

@@ -6,10 +6,8 @@ ghost use Rattle.listing.specs.Listing as model;
 ghost use Rattle.listing.specs.Listing.{Printed};
 
 use crate::lines::{put_log, put_refusal};
-use record::refusal::Outcome;
 use session::run;
 use sizes::{LOG_SPACE, TEXT_SPACE};
-use slices::least;
 
 pub mod lines;
 
@@ -18,13 +16,10 @@ pub fn list(session: &[u8], log: &mut [u8], text: &mut [u8]) -> usize
     ensures { record { size = result; log = log.new; text = text.new }
         ≡ model.list_in session.now log.old text.old }
 {
-    let ran = run(session, log);
-    let outcome = ran.outcome;
-    let length = ran.size;
     let room = text.len();
-    match outcome {
-        Outcome::Refused(why) => least(put_refusal(text, why), room),
-        Outcome::Accepted => least(put_log(text, &log[..length]), room),
+    match run(session, log) {
+        Ok(length) => put_log(text, &log[..length]).min(room),
+        Err(why) => put_refusal(text, why).min(room),
     }
 }
 

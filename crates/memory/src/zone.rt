@@ -9,12 +9,12 @@ ghost use Rattle.model.specs.Single.{apply};
 ghost use Rattle.memory.specs.ZonePage.{merges_of, StageRight};
 ghost use Rattle.access.specs.VolatileState.{volatile_of};
 
-use crate::page;
+use crate::page::{self, merged};
 use access::register;
 use access::rights::{zone_readable, zone_writable};
 use access::volatile::Volatile;
 use sizes::{FUSES, REGISTERS};
-use slices::{copy, fill, least};
+use slices::{copy, fill};
 
 // count bytes of the 256 from base on, starting at the address and going on at the first past the last.
 fn roll(card: &[u8], base: usize, address: usize, count: usize, response: &mut [u8])
@@ -22,10 +22,11 @@ fn roll(card: &[u8], base: usize, address: usize, count: usize, response: &mut [
     ensures { response.new
         ≡ tab (λ k. at card.now (base + (address + k) % 256)) count ++ drop count response.old }
 {
+    // Kept as a while: a turn goes on by a run of bytes, which no `for` counts.
     let mut i = 0;
     let mut next = address;
     while i < count {
-        let run = least(count - i, 256 - next);
+        let run = (count - i).min(256 - next);
         copy(response, i, card, base + next, run);
         i += run;
         next = 0;
@@ -33,6 +34,7 @@ fn roll(card: &[u8], base: usize, address: usize, count: usize, response: &mut [
 }
 
 // helper: read zone. Where it may not be read, each byte is answered by F.
+#[tactic(auto, using(crate::proofs::ZoneMemoryLaws::read_zone_shut, crate::proofs::ZoneMemoryLaws::read_zone_open))]
 pub fn read_zone(card: &[u8], state: Volatile, address: u8, count: usize, response: &mut [u8])
     requires { (length card.now ≡ card_size) × (state.zone.0 < 8) × (count ≤ length response.old) }
     ensures { response.new
@@ -53,11 +55,7 @@ pub fn read_zone(card: &[u8], state: Volatile, address: u8, count: usize, respon
 fn merges(fuses: u8, register: u8) -> bool
     ensures { result ≡ merges_of fuses register }
 {
-    if fuses == 7 {
-        return false;
-    }
-    let fields = register::fields(register);
-    fields.pgo
+    fuses != 7 && register::fields(register).pgo
 }
 
 // helper: write zone.
@@ -75,10 +73,16 @@ pub fn write_zone(card: &mut [u8], state: Volatile, address: u8, bytes: &[u8])
     let base = zone * 256 + address as usize / 16 * 16;
     let end = base + 16;
     let low = address as usize % 16;
-    page::store(&mut card[base..end], low, bytes, pgo);
+    page::store(
+        &mut card[base..end],
+        low,
+        bytes,
+        |_, old, new| merged(pgo, old, new),
+    );
 }
 
 // helper: whether the selected zone may be written, at whatever address.
+#[tactic(auto, using(crate::proofs::ZoneMemoryLaws::stage_right))]
 pub fn may_stage(card: &[u8], state: Volatile) -> bool
     requires { (length card.now ≡ card_size) × (state.zone.0 < 8) }
     ensures { StageRight result card.now (volatile_of state) }

@@ -3,7 +3,6 @@
 
 use input::read_full;
 use mender::mend;
-use record::refusal::Outcome;
 use refusal_text::{print_refusal, write_whole};
 use sizes::INPUT;
 use std::io;
@@ -12,10 +11,8 @@ fn main(rt: HostRuntime) -> io::Result<()> {
     let mut input = [0u8; INPUT];
     let length = read_full(&mut rt.stdin(), &mut input)?;
     let session = &mut input[..length];
-    let mended = mend(session);
-    let outcome = mended.outcome;
-    match outcome {
-        Outcome::Refused(why) => print_refusal(&mut rt.stderr(), b"mend", why),
-        Outcome::Accepted => write_whole(&mut rt.stdout(), &mut rt.stderr(), session),
+    match mend(session) {
+        Err(why) => print_refusal(&mut rt.stderr(), b"mend", why),
+        Ok(_) => write_whole(&mut rt.stdout(), &mut rt.stderr(), session),
     }
 }

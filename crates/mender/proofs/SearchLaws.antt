@@ -1,16 +1,15 @@
 -- The two loops, from what their turns find: the records read from one start, and the starts tried.
 use Prim.Native.Nat.{ℕ, suc, ◌+◌, ◌-◌, ◌≤◌, ◌<◌}
-use mathlib.Core.List.{List}
-use mathlib.Core.Path.{◌≡◌, refl, sym, ap, ◌∙◌}
-use native.Mathlib.Omega.{arith}
-use lib.ListN.{length}
+use Rattle.std.specs.Prelude.{List, ◌≡◌, length, take, drop}
+use Rattle.std.proofs.Common.{refl, sym, ap, ◌∙◌, arith}
 use Rattle.model.specs.Sizes.{card_size, most_records}
 use Rattle.model.specs.Call.{refused, whole}
-use Rattle.model.specs.Instruction.{Instruction}
-use Rattle.model.specs.Reader.{records_end, next_of}
-use Rattle.model.specs.Mender.{count_from, nowhere, sooner, start_from, smallest_start}
-use Rattle.laws.specs.ReaderLaws.{next_within}
+use Rattle.model.specs.Reader.{records_end}
+use Rattle.model.specs.Record.{decode}
+use Rattle.model.specs.Mender.{count_from, nowhere, found, start_from, smallest_start}
 use Rattle.laws.specs.MenderLaws.{before, before_none, before_another, count_refused, count_last, count_next, start_here, start_later}
+use Rattle.record.specs.DecodedRecord.{measure_of}
+use Rattle.mender.proofs.PartLaws.{Next, next_refused, next_whole}
 
 -- what is known while records are read from a start: how many were, and the place behind them
 pub record Reading (s : List ℕ) (start count place : ℕ) : Type 0 where
@@ -35,21 +34,29 @@ module _ (s : List ℕ) (start count place : ℕ) (p : Reading s start count pla
     opened : before count (count_from (suc (most_records - (count + 1))) s place) ≡ count_from most_records s start
     opened = ap (λ (n : ℕ). before count (count_from n s place)) left ∙ p.rest
 
-    pub reading_refused : (r : ℕ) → next_of s place ≡ refused r → 0 ≡ count_from most_records s start
-    reading_refused r e = ap (before count) (sym (count_refused s (suc (most_records - (count + 1))) place r e)) ∙ opened
+    -- the record at the place, measured up to the end of the records
+    module _ (end : ℕ) (ends : end ≡ records_end (length s)) where
+      pub reading_refused : (r : ℕ) → refused r ≡ measure_of (decode (take (end - place) (drop place s))) → 0 ≡ count_from most_records s start
+      reading_refused r e =
+          ap (before count) (sym (count_refused s (suc (most_records - (count + 1))) place r (next_refused s place end ends r e))) ∙ opened
 
-    module _ (k : Instruction) (m : ℕ) (next : next_of s place ≡ whole k m) where
-      pub reading_last : place + m ≡ records_end (length s) → count + 1 ≡ count_from most_records s start
-      reading_last e = ap (before count) (sym (count_last s place k m next (most_records - (count + 1)) e)) ∙ opened
+      module _ (l m : ℕ) (measured : whole l m ≡ measure_of (decode (take (end - place) (drop place s)))) where
+        abbrev k : Next s place end ends m
+        k = next_whole s place end ends l m measured
 
-      pub reading_next : (place + m ≡ records_end (length s) → ⊥) → Reading s start (count + 1) (place + m)
-      reading_next e =
-          record {
-            few = omega arith;
-            within = (next_within s place k m next).1;
-            rest = sym (before_another count (count_from (most_records - (count + 1)) s (place + m)))
-                ∙ ap (before count) (sym (count_next s place k m next (most_records - (count + 1)) e)) ∙ opened;
-          }
+        pub reading_last : place + m ≡ end → count + 1 ≡ count_from most_records s start
+        reading_last e =
+            ap (before count) (sym (count_last s place k.instruction m k.next (most_records - (count + 1)) (e ∙ ends))) ∙ opened
+
+        pub reading_next : (after : ℕ) → after ≡ count + 1 → (place + m ≡ end → ⊥) → Reading s start after (place + m)
+        reading_next after q e =
+            record {
+              few = omega arith;
+              within = k.within;
+              rest = ap (λ (n : ℕ). before n (count_from (most_records - n) s (place + m))) q
+                  ∙ sym (before_another count (count_from (most_records - (count + 1)) s (place + m)))
+                  ∙ ap (before count) (sym (count_next s place k.instruction m k.next (most_records - (count + 1)) (λ t. e (t ∙ sym ends)))) ∙ opened;
+            }
 
 -- what is known while starts are tried: the one that is sought lies among those that are left
 pub record Trying (s : List ℕ) (start : ℕ) : Type 0 where
@@ -69,7 +76,7 @@ module _ (s : List ℕ) (start : ℕ) (p : Trying s start) where
     pub trying_next : 0 ≡ count_from most_records s start → Trying s (start + 1)
     trying_next e = record { rest = start_later s start more e ∙ p.rest }
 
-    pub trying_found : (k n : ℕ) → n ≡ k + 1 → k + 1 ≡ count_from most_records s start → sooner start n nowhere ≡ smallest_start s
+    pub trying_found : (k n : ℕ) → n ≡ k + 1 → k + 1 ≡ count_from most_records s start → found start n ≡ smallest_start s
     trying_found k n q e =
         let z : n ≡ suc k = q ∙ (omega arith) in
-        ap (λ (m : ℕ). sooner start m nowhere) z ∙ start_here s start more k (sym z ∙ q ∙ e) ∙ p.rest
+        ap (found start) z ∙ start_here s start more k (sym z ∙ q ∙ e) ∙ p.rest

@@ -1,11 +1,10 @@
 -- The decoder of the model, from what the tests of the code found, in their order.
-use Prim.Native.Nat.{ℕ, ◌+◌, ◌≤◌, ◌<◌}
-use mathlib.Core.Bool.{Bool, true, false, cond, not}
-use mathlib.Core.List.{List, []}
-use mathlib.Core.Path.{◌≡◌, sym, ap, ◌∙◌}
-use borrow.Author.Tests.{lt-ltb, le-ltb, eq-eqb, ne_eqb, not-false}
-use lib.Dec.{ltb}
-use lib.ListN.{length, take, drop}
+use Rattle.std.specs.Prelude.{ℕ, ◌+◌, ◌≤◌, ◌<◌, ◌≡◌, refl, Bool, true, false, cond, List, [], ◌∷◌, Some, None, ltb, length, take, drop, slice_get}
+use Rattle.std.proofs.Common.{arith, sym, ap, ◌∙◌}
+use Rattle.std.proofs.lemmas.Option.{get_or_from_slice_get, slice_get_within}
+use borrow.Author.Tests.{lt-ltb, le-ltb, ne_eqb}
+use Rattle.kinds.specs.declared.kind.Kind.{Kind}
+use Rattle.kinds.specs.KindNumber.{kind_number, kind_known}
 use Rattle.model.specs.At88sc1608.{at88sc1608}
 use Rattle.model.specs.Call.{refused, whole}
 use Rattle.model.specs.Instruction.{Instruction}
@@ -16,37 +15,52 @@ use Rattle.model.specs.Refusal.{unknown_kind, field_out_of_range, cut_short}
 use Rattle.record.specs.declared.decoder.Record.{Record}
 use Rattle.record.specs.declared.decoder.Head.{Head}
 use Rattle.record.specs.DecodedRecord.{instruction_of, record_of, head_of, measure_of}
-use Rattle.laws.specs.KindLaws.{known_within}
 use Rattle.record.specs.HeadLaws.{refused_of, whole_of, made_answer, head_instruction}
-
--- ---- a kind byte
-
-pub kind_within : (k : ℕ) (ok : Bool) → ok ≡ known k → not ok ≡ false → (1 ≤ k) × (k ≤ 16)
-kind_within k ok e f = known_within k (sym e ∙ not-false ok f)
 
 -- ---- the lengths of a record
 
+pub no_kind : (part : List ℕ) → None ≡ slice_get part 0 → refused cut_short ≡ measure_of (decode part)
+unfolding decode
+no_kind [] e = refl
+no_kind (x ∷ xs) e = cc
+
+pub no_first : (part : List ℕ) → length part ≡ 0 → None ≡ slice_get part 0
+no_first [] e = refl
+no_first (x ∷ xs) e = cc
+
+-- the first byte of a part
+first_at : (part : List ℕ) (k : ℕ) → Some k ≡ slice_get part 0 → k ≡ at part 0
+first_at part k e = sym (get_or_from_slice_get part 0 k 0 (sym e))
+
+not_empty : (part : List ℕ) (k : ℕ) → Some k ≡ slice_get part 0 → length part ≡ 0 → ⊥
+not_empty part k e empty = let within = slice_get_within part 0 k (sym e) in omega (arith, within, empty)
+
 module _ (part : List ℕ) where
-  pub no_kind : length part ≡ 0 → refused cut_short ≡ measure_of (decode part)
+  pub unknown : (k : ℕ) → Some k ≡ slice_get part 0 → known k ≡ false → refused unknown_kind ≡ measure_of (decode part)
   unfolding decode
-  no_kind e = rw (eq-eqb _ _ e)
+  unknown k first e = rw (ne_eqb _ _ (not_empty part k first), ← first_at part k first, e)
 
-  module _ (k : ℕ) (ok : Bool) (nonempty : length part ≡ 0 → ⊥) (kind : k ≡ at part 0) (test : ok ≡ known k) where
-    pub unknown : not ok ≡ true → refused unknown_kind ≡ measure_of (decode part)
-    unfolding decode
-    unknown e = rw (ne_eqb _ _ nonempty, ← kind, ← test, e)
+  module _ (kind : Kind) (first : Some (kind_number kind) ≡ slice_get part 0) where
+    abbrev k : ℕ
+    k = kind_number kind
 
-    module _ (s : ℕ) (found : not ok ≡ false) (start : s ≡ fixed_fields k) where
+    here : k ≡ at part 0
+    here = first_at part k first
+
+    nonempty : length part ≡ 0 → ⊥
+    nonempty = not_empty part k first
+
+    module _ (s : ℕ) (start : s ≡ fixed_fields k) where
       pub fields_absent : length part < 1 + s → refused cut_short ≡ measure_of (decode part)
       unfolding decode
-      fields_absent e = rw (ne_eqb _ _ nonempty, ← kind, ← test, found, ← start, lt-ltb _ _ e)
+      fields_absent e = rw (ne_eqb _ _ nonempty, ← here, kind_known kind, ← start, lt-ltb _ _ e)
 
-      module _ (a n : ℕ) (ok' : Bool) (fields : 1 + s ≤ length part) (first : a ≡ at part 1) (second : n ≡ at part 2) (range : ok' ≡ in_range k a n) where
-        pub out_of_range : not ok' ≡ true → refused field_out_of_range ≡ measure_of (decode part)
+      module _ (a n : ℕ) (ok' : Bool) (fields : 1 + s ≤ length part) (one : a ≡ at part 1) (two : n ≡ at part 2) (range : ok' ≡ in_range k a n) where
+        pub out_of_range : ok' ≡ false → refused field_out_of_range ≡ measure_of (decode part)
         unfolding decode
-        out_of_range e = rw (ne_eqb _ _ nonempty, ← kind, ← test, found, ← start, le-ltb _ _ fields, ← first, ← second, ← range, e)
+        out_of_range e = rw (ne_eqb _ _ nonempty, ← here, kind_known kind, ← start, le-ltb _ _ fields, ← one, ← two, ← range, e)
 
-        module _ (m : ℕ) (within : not ok' ≡ false) (length_is : m ≡ 1 + fixed_fields k + data_length k n) where
+        module _ (m : ℕ) (within : ok' ≡ true) (length_is : m ≡ 1 + fixed_fields k + data_length k n) where
           abbrev bytes : List ℕ
           bytes = take (data_length k n) (drop (1 + s) part)
 
@@ -56,12 +70,11 @@ module _ (part : List ℕ) where
           left =
               rw (
                 ne_eqb _ _ nonempty,
-                ← kind,
-                ← first,
-                ← second,
+                ← here,
+                ← one,
+                ← two,
                 ← length_is,
-                ← test,
-                found,
+                kind_known kind,
                 ← start,
                 le-ltb _ _ fields,
                 ← range,
@@ -73,7 +86,7 @@ module _ (part : List ℕ) where
 
           pub all_there : (l : ℕ) → m ≤ length part → l ≡ full_answer at88sc1608 (made k 0 n []) → whole l m ≡ measure_of (decode part)
           all_there l e q =
-              ap (λ (x : ℕ). whole x m) (q ∙ made_answer a n bytes k (sym test ∙ not-false ok found))
+              ap (λ (x : ℕ). whole x m) (q ∙ made_answer a n bytes k (kind_known kind))
               ∙ sym (ap measure_of left ∙ rw (le-ltb _ _ e))
 
 -- ---- the record of a part whose lengths are known

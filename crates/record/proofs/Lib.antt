@@ -1,1 +1,2 @@
 pub mod DecoderLaws
+pub mod NumberLaws

@@ -1,5 +1,5 @@
 -- Decoded records of the code as those of the model.
-use Rattle.std.specs.Prelude.{ℕ, ◌-◌, cond, List, eqb, take, drop}
+use Rattle.std.specs.Prelude.{ℕ, ◌-◌, cond, List, Result, Ok, Err, eqb, take, drop}
 use Rattle.model.specs.Lists.{at}
 use Rattle.model.specs.At88sc1608.{at88sc1608}
 use Rattle.model.specs.Call as call
@@ -9,9 +9,8 @@ use Rattle.laws.specs.BusyLaws.{full_answer}
 use Rattle.record.specs.declared.decoder.Record.{Record}
 use Rattle.record.specs.declared.decoder.Record.TheVariants as kind
 use Rattle.record.specs.declared.decoder.Decoded.{Decoded}
-use Rattle.record.specs.declared.decoder.Decoded.TheVariants as decoded
-use Rattle.record.specs.declared.decoder.Measured.{Measured}
-use Rattle.record.specs.declared.decoder.Measured.TheVariants as measured
+use Rattle.record.specs.declared.decoder.Lengths.{Lengths}
+use Rattle.record.specs.declared.refusal.Refusal.{Refusal}
 use Rattle.record.specs.declared.decoder.Head.{Head}
 use Rattle.record.specs.RefusalNumber.{refusal_number}
 
@@ -38,9 +37,9 @@ instruction_of part n kind.Poll = poll
 instruction_of part n (kind.WriteStaged a) = write_staged a (between 3 n part)
 instruction_of part n (kind.Arm m junk) = arm m junk
 
-abbrev pub decoded_of : List ℕ → Decoded → call.Decoded Instruction
-decoded_of part (decoded.Refused why) = call.refused (refusal_number why)
-decoded_of part (decoded.Whole r n) = call.whole (instruction_of part n r) n
+abbrev pub decoded_of : List ℕ → Result Decoded Refusal → call.Decoded Instruction
+decoded_of part (Err why) = call.refused (refusal_number why)
+decoded_of part (Ok d) = call.whole (instruction_of part d.length d.record) d.length
 
 -- the record of a known kind with its fixed fields
 unfoldable pub record_of : ℕ → ℕ → ℕ → Record
@@ -72,6 +71,6 @@ abbrev pub measure_of : call.Decoded Instruction → call.Decoded ℕ
 measure_of (call.refused why) = call.refused why
 measure_of (call.whole k n) = call.whole (full_answer at88sc1608 k) n
 
-abbrev pub measured_of : Measured → call.Decoded ℕ
-measured_of (measured.Refused why) = call.refused (refusal_number why)
-measured_of (measured.Whole m n) = call.whole m n
+abbrev pub measured_of : Result Lengths Refusal → call.Decoded ℕ
+measured_of (Err why) = call.refused (refusal_number why)
+measured_of (Ok l) = call.whole l.answer l.record

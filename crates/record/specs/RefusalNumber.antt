@@ -1,9 +1,7 @@
 -- The paper's number of each refusal.
-use Rattle.std.specs.Prelude.{ℕ, suc, ◌≡◌, refl}
+use Rattle.std.specs.Prelude.{ℕ, suc, ◌≡◌, refl, Result, Ok, Err}
 use Rattle.model.specs.Refusal as model
 use Rattle.record.specs.declared.refusal.Refusal.{Refusal}
-use Rattle.record.specs.declared.refusal.Outcome.{Outcome}
-use Rattle.record.specs.declared.refusal.Outcome.TheVariants as outcome
 use Rattle.record.specs.declared.refusal.Refusal.TheVariants as refusal
 
 abbrev pub refusal_number : Refusal → ℕ
@@ -48,6 +46,6 @@ number_some refusal.NoStart = (16, refl)
 number_some refusal.BoxLimits = (17, refl)
 
 -- the number of the refusal that a call ends with, or 0
-abbrev pub outcome_number : Outcome → ℕ
-outcome_number outcome.Accepted = 0
-outcome_number (outcome.Refused why) = refusal_number why
+abbrev pub outcome_number : Result Unit Refusal → ℕ
+outcome_number (Ok _) = 0
+outcome_number (Err why) = refusal_number why

@@ -1,14 +1,16 @@
 // A record at the front of some bytes: its kind, its fixed fields, its data behind them.
-ghost use Rattle.std.specs.Prelude.{◌≡◌, get_or};
+ghost use Rattle.std.specs.Prelude.{◌≡◌, ◌≤◌, true, get_or};
+ghost use Rattle.model.specs.Record.{known};
 ghost use Rattle.model.specs.Record as model;
 ghost use Rattle.record.specs.DecodedRecord.{decoded_of, record_of, head_of, measured_of, measure_of};
 
 use crate::refusal::Refusal;
 use access::volatile::Zone;
-use kinds::{answer_length, fixed_fields, in_range, is_known, read_count, record_length};
+use kinds::kind::Kind;
+use kinds::read_count;
 
 // A record without its data bytes, which follow its fixed fields up to the record's end.
-#[derive(Clone, Copy)]
+#[derive(Clone, Copy, Debug, PartialEq, Eq)]
 pub enum Record {
     PowerCycle,
     Reset,
@@ -34,26 +36,38 @@ pub enum Record {
     Arm(u8, u8),
 }
 
-// A refusal, or a record and its length.
-#[derive(Clone, Copy)]
-pub enum Decoded {
-    Refused(Refusal),
-    Whole(Record, usize),
+// A record and its length.
+#[derive(Clone, Copy, Debug, PartialEq, Eq)]
+pub struct Decoded {
+    pub record: Record,
+    pub length: usize,
 }
 
-// A refusal, or the length of a record's answer in full and its own.
-#[derive(Clone, Copy)]
-pub enum Measured {
-    Refused(Refusal),
-    Whole(u16, usize),
+// The length of a record's answer in full, and the record's own.
+#[derive(Clone, Copy, Debug, PartialEq, Eq)]
+pub struct Lengths {
+    pub answer: u16,
+    pub record: usize,
 }
 
 // The kind byte and the two behind it, which are the fixed fields where the kind has them.
-#[derive(Clone, Copy)]
+#[derive(Clone, Copy, Debug, PartialEq, Eq)]
 pub struct Head {
     pub kind: u8,
     pub a: u8,
     pub n: u8,
+}
+
+impl Head {
+    ghost use Rattle.kinds.specs.KindNumber.{kind_number};
+
+    // helper: the kind of a record that was checked.
+    pub fn kind(self) -> Kind
+        requires { known self.kind ≡ true }
+        ensures { kind_number result ≡ self.kind }
+    {
+        Kind::try_from(self.kind).unwrap()
+    }
 }
 
 // The record of a known kind with its fixed fields.
@@ -84,10 +98,7 @@ pub fn made(kind: u8, a: u8, n: u8) -> Record
 fn byte_at(part: &[u8], at: usize) -> u8
     ensures { result ≡ get_or part.now at 0 }
 {
-    if at < part.len() {
-        return part[at];
-    }
-    0
+    part.get(at).copied().unwrap_or(0)
 }
 
 // The first three bytes of a part.
@@ -102,41 +113,41 @@ pub fn head_of(part: &[u8]) -> Head
 }
 
 // The lengths of the record at the front of a part that begins at its kind byte.
-pub fn measure(part: &[u8]) -> Measured
+#[inline(always)]
+pub fn measure(part: &[u8]) -> Result<Lengths, Refusal>
     ensures { measured_of result ≡ measure_of (model.decode part.now) }
 {
-    if part.len() == 0 {
-        return Measured::Refused(Refusal::CutShort);
-    }
-    let kind = byte_at(part, 0);
-    if !is_known(kind) {
-        return Measured::Refused(Refusal::UnknownKind);
-    }
-    let start = 1 + fixed_fields(kind);
+    let Some(&byte) = part.first() else {
+        return Err(Refusal::CutShort);
+    };
+    let kind = Kind::try_from(byte)?;
+    let start = 1 + kind.fixed_fields();
     if part.len() < start {
-        return Measured::Refused(Refusal::CutShort);
+        return Err(Refusal::CutShort);
     }
     let a = byte_at(part, 1);
     let n = byte_at(part, 2);
-    if !in_range(kind, a, n) {
-        return Measured::Refused(Refusal::FieldOutOfRange);
+    if !kind.in_range(a, n) {
+        return Err(Refusal::FieldOutOfRange);
     }
-    let end = record_length(kind, n);
+    let end = kind.record_length(n);
     if part.len() < end {
-        return Measured::Refused(Refusal::CutShort);
+        return Err(Refusal::CutShort);
     }
-    Measured::Whole(answer_length(kind, n), end)
+    Ok(Lengths {
+        answer: kind.answer_length(n),
+        record: end,
+    })
 }
 
 // The record at the front of such a part.
-pub fn decode(part: &[u8]) -> Decoded
+pub fn decode(part: &[u8]) -> Result<Decoded, Refusal>
     ensures { decoded_of part.now result ≡ model.decode part.now }
 {
-    match measure(part) {
-        Measured::Refused(why) => Decoded::Refused(why),
-        Measured::Whole(_, end) => {
-            let head = head_of(part);
-            Decoded::Whole(made(head.kind, head.a, head.n), end)
-        }
-    }
+    let lengths = measure(part)?;
+    let head = head_of(part);
+    Ok(Decoded {
+        record: made(head.kind, head.a, head.n),
+        length: lengths.record,
+    })
 }

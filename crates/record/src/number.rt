@@ -1,46 +1,30 @@
-// Numbers of two and four bytes, lowest byte first.
-ghost use Rattle.std.specs.Prelude.{◌≡◌, ◌+◌, ◌*◌, ◌≤◌, ◌<◌, length};
+// Numbers of a few bytes, lowest byte first.
+ghost use Rattle.std.specs.Prelude.{◌≡◌, ◌+◌, ◌^◌, ◌≤◌, ◌<◌, length};
 ghost use Rattle.std.proofs.lemmas.List.Edits.{sets};
 ghost use Rattle.model.specs.Numbers.{bytes_of, number_at};
 
-fn word(low: u8, high: u8) -> usize
-    ensures { (result ≡ low + 256 * high) × (result < 65536) }
+// helper: the number in the WIDTH bytes from a place on.
+pub fn get<const WIDTH: usize>(bytes: &[u8], at: usize) -> usize
+    requires within { at + WIDTH ≤ length bytes.now }
+    requires narrow { WIDTH ≤ 4 }
+    ensures number { result ≡ number_at bytes.now at WIDTH }
+    ensures range { result < 256 ^ WIDTH }
 {
-    low as usize + 256 * high as usize
+    let mut number = 0;
+    for i in (0..WIDTH).rev() {
+        number = 256 * number + bytes[at + i] as usize;
+    }
+    number
 }
 
-// helper: the number in the two bytes from a place on.
-pub fn get2(bytes: &[u8], at: usize) -> usize
-    requires { at + 2 ≤ length bytes.now }
-    ensures { (result ≡ number_at bytes.now at 2) × (result < 65536) }
+// helper: a number put into the WIDTH bytes from a place on.
+pub fn put<const WIDTH: usize>(bytes: &mut [u8], at: usize, number: usize)
+    requires { at + WIDTH ≤ length bytes.old }
+    ensures { bytes.new ≡ sets bytes.old at (bytes_of WIDTH number) }
 {
-    word(bytes[at], bytes[at + 1])
-}
-
-// helper: the number in the four bytes from a place on.
-pub fn get4(bytes: &[u8], at: usize) -> usize
-    requires { at + 4 ≤ length bytes.now }
-    ensures { (result ≡ number_at bytes.now at 4) × (result < 65536 * 65536) }
-{
-    get2(bytes, at) + 65536 * get2(bytes, at + 2)
-}
-
-// helper: a number put into the two bytes from a place on.
-pub fn put2(bytes: &mut [u8], at: usize, n: usize)
-    requires { at + 2 ≤ length bytes.old }
-    ensures { bytes.new ≡ sets bytes.old at (bytes_of 2 n) }
-{
-    bytes[at] = (n % 256) as u8;
-    bytes[at + 1] = (n / 256 % 256) as u8;
-}
-
-// helper: a number put into the four bytes from a place on.
-pub fn put4(bytes: &mut [u8], at: usize, n: usize)
-    requires { at + 4 ≤ length bytes.old }
-    ensures { bytes.new ≡ sets bytes.old at (bytes_of 4 n) }
-{
-    bytes[at] = (n % 256) as u8;
-    bytes[at + 1] = (n / 256 % 256) as u8;
-    bytes[at + 2] = (n / 256 / 256 % 256) as u8;
-    bytes[at + 3] = (n / 256 / 256 / 256 % 256) as u8;
+    let mut rest = number;
+    for i in 0..WIDTH {
+        bytes[at + i] = (rest % 256) as u8;
+        rest /= 256;
+    }
 }

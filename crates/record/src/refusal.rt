@@ -1,10 +1,14 @@
-// Why an input is refused, and whether one was.
+// Why an input is refused, and the number of each refusal.
 ghost use Rattle.std.specs.Prelude.{◌≡◌};
+ghost use Rattle.record.specs.declared.refusal.Refusal.TheVariants.{UnknownKind};
 ghost use Rattle.record.specs.RefusalNumber.{refusal_number, outcome_number};
 
-#[derive(Clone, Copy)]
+use kinds::kind::UnknownKind;
+
+// In the order of their numbers, from 1.
+#[derive(Clone, Copy, Debug, PartialEq, Eq)]
 pub enum Refusal {
-    SessionLength,
+    SessionLength = 1,
     SessionTrailer,
     StartOutOfRange,
     TooManyRecords,
@@ -24,45 +28,28 @@ pub enum Refusal {
     BoxLimits,
 }
 
-// The number of a refusal.
-pub fn number(refusal: Refusal) -> u8
-    ensures { result ≡ refusal_number refusal }
-{
-    match refusal {
-        Refusal::SessionLength => 1,
-        Refusal::SessionTrailer => 2,
-        Refusal::StartOutOfRange => 3,
-        Refusal::TooManyRecords => 4,
-        Refusal::FuseByte => 5,
-        Refusal::UnknownKind => 6,
-        Refusal::FieldOutOfRange => 7,
-        Refusal::CutShort => 8,
-        Refusal::BytesLeft => 9,
-        Refusal::NoSpace => 10,
-        Refusal::CardLength => 11,
-        Refusal::StateOutOfRange => 12,
-        Refusal::NotALog => 13,
-        Refusal::NoSuchAnswer => 14,
-        Refusal::TitleLength => 15,
-        Refusal::StagingBytes => 16,
-        Refusal::NoStart => 17,
-        Refusal::BoxLimits => 18,
+impl From<UnknownKind> for Refusal {
+    ghost from_gives = { λ _ why. why ≡ UnknownKind };
+
+    fn from(_: UnknownKind) -> Refusal {
+        Refusal::UnknownKind
     }
 }
 
-// How a call ends.
-#[derive(Clone, Copy)]
-pub enum Outcome {
-    Accepted,
-    Refused(Refusal),
+impl From<Refusal> for u8 {
+    ghost from_gives = { λ why n. n ≡ refusal_number why };
+
+    fn from(why: Refusal) -> u8 {
+        why as u8
+    }
 }
 
-// The number of its refusal, or 0.
-pub fn outcome_number(outcome: Outcome) -> u8
+// The number of the refusal that a call ends with, or 0.
+pub fn outcome_number(outcome: Result<(), Refusal>) -> u8
     ensures { result ≡ outcome_number outcome }
 {
     match outcome {
-        Outcome::Accepted => 0,
-        Outcome::Refused(why) => number(why),
+        Ok(()) => 0,
+        Err(why) => u8::from(why),
     }
 }

@@ -1,5 +1,7 @@
 -- The numbers that the exported functions give back.
-use Rattle.std.specs.Prelude.{ℕ, ◌+◌, ◌*◌, ◌^◌}
+use Rattle.std.specs.Prelude.{ℕ, ◌+◌, ◌*◌, ◌^◌, Result, Ok, Err}
+use Rattle.record.specs.declared.refusal.Refusal.{Refusal}
+use Rattle.record.specs.RefusalNumber.{refusal_number}
 
 -- the refusal's number, or 0, and 2^8 times a length
 abbrev pub run_result : ℕ → ℕ → ℕ
@@ -16,3 +18,21 @@ answer_result refusal n headers from = refusal + 2 ^ 8 * n + 2 ^ 24 * headers + 
 -- the refusal's number, or 0, 2^8 times the count of the records and 2^32 times where they start
 abbrev pub mend_result : ℕ → ℕ → ℕ → ℕ
 mend_result refusal count start = refusal + 2 ^ 8 * count + 2 ^ 32 * start
+
+-- ---- of what the code hands out
+
+abbrev pub result_number : Result ℕ Refusal → ℕ
+result_number (Ok length) = run_result 0 length
+result_number (Err why) = run_result (refusal_number why) 0
+
+abbrev pub command_number : Result ℕ Refusal → ℕ → ℕ → ℕ
+command_number (Ok length) tries kind = command_result 0 length tries kind
+command_number (Err why) tries kind = command_result (refusal_number why) 0 tries kind
+
+abbrev pub answer_number : Result (ℕ × ℕ) Refusal → ℕ → ℕ
+answer_number (Ok (from, length)) headers = answer_result 0 length headers from
+answer_number (Err why) headers = answer_result (refusal_number why) 0 headers 0
+
+abbrev pub mend_number : Result (ℕ × ℕ) Refusal → ℕ
+mend_number (Ok (count, start)) = mend_result 0 count start
+mend_number (Err why) = mend_result (refusal_number why) 0 0

@@ -1,54 +1,52 @@
 // The numbers that the exported functions give back.
 #![tactic(auto)]
 
-ghost use Rattle.std.specs.Prelude.{◌≡◌, ◌*◌, ◌≤◌, ◌^◌};
+ghost use Rattle.std.specs.Prelude.{◌≡◌, ◌*◌, ◌≤◌, ◌^◌, IfOk};
 ghost use Rattle.model.specs.Sizes.{greatest_session, most_records};
-ghost use Rattle.record.specs.RefusalNumber.{outcome_number};
-ghost use Rattle.results.specs.Results.{run_result, command_result, answer_result, mend_result};
+ghost use Rattle.results.specs.Results.{result_number, command_number, answer_number, mend_number};
 
-use record::refusal::{Outcome, outcome_number};
+use record::refusal::Refusal;
 
-// helper: the refusal's number, or 0, with 2^8 times a length.
-pub fn result_number(outcome: Outcome, length: usize) -> u64
-    requires { length ≤ 2 ^ 32 }
-    ensures { result ≡ run_result (outcome_number outcome) length }
+// helper: 2^8 times a length, or the refusal's number.
+pub fn result_number(ran: Result<usize, Refusal>) -> u64
+    requires { IfOk ran (λ length. length ≤ 2 ^ 32) }
+    ensures { result ≡ result_number ran }
 {
-    let refusal = outcome_number(outcome) as u64;
-    let long = length as u64;
-    refusal + 256 * long
+    match ran {
+        Ok(length) => (length as u64) << 8,
+        Err(why) => u64::from(u8::from(why)),
+    }
 }
 
-// helper: the refusal's number, or 0, with 2^8 times a length, 2^24 times the tries left and 2^32 times the kind that is answered.
-pub fn command_number(outcome: Outcome, length: usize, tries: u8, kind: u8) -> u64
-    requires { length ≤ 2 ^ 32 }
-    ensures { result ≡ command_result (outcome_number outcome) length tries kind }
+// helper: the same of a response's length, with 2^24 times the tries left and 2^32 times the kind that is answered.
+pub fn command_number(replied: Result<usize, Refusal>, tries: u8, kind: u8) -> u64
+    requires { IfOk replied (λ length. length ≤ 2 ^ 32) }
+    ensures { result ≡ command_number replied tries kind }
 {
-    let refusal = outcome_number(outcome) as u64;
-    let long = length as u64;
-    let left = tries as u64;
-    let answered = kind as u64;
-    refusal + 4294967296 * answered + 16777216 * left + 256 * long
+    result_number(replied) + (u64::from(tries) << 24) + (u64::from(kind) << 32)
 }
 
-// helper: the refusal's number, or 0, with 2^8 times an answer's length, 2^24 times the headers that were read and 2^40 times where it begins.
-pub fn answer_number(outcome: Outcome, length: usize, headers: usize, from: usize) -> u64
-    requires { (length ≤ 256) × (headers ≤ most_records) × (from ≤ 260 * most_records) }
-    ensures { result ≡ answer_result (outcome_number outcome) length headers from }
+// helper: where an answer begins and how long it is, as 2^40 times the one and 2^8 times the other, or the refusal's number; with 2^24 times the
+// headers that were read.
+pub fn answer_number(found: Result<(usize, usize), Refusal>, headers: usize) -> u64
+    requires place { IfOk found (λ place. (place.0 ≤ 260 * most_records) × (place.1 ≤ 256)) }
+    requires headers { headers ≤ most_records }
+    ensures { result ≡ answer_number found headers }
 {
-    let refusal = outcome_number(outcome) as u64;
-    let long = length as u64;
-    let many = headers as u64;
-    let start = from as u64;
-    refusal + 1099511627776 * start + 16777216 * many + 256 * long
+    let read = (headers as u64) << 24;
+    match found {
+        Ok((from, length)) => ((length as u64) << 8) + read + ((from as u64) << 40),
+        Err(why) => result_number(Err(why)) + read,
+    }
 }
 
-// helper: the refusal's number, or 0, with 2^8 times a count and 2^32 times where the records start.
-pub fn mend_number(outcome: Outcome, count: usize, start: usize) -> u64
-    requires { (count ≤ most_records) × (start ≤ greatest_session) }
-    ensures { result ≡ mend_result (outcome_number outcome) count start }
+// helper: how many records there are and where they start, as 2^8 times the one and 2^32 times the other, or the refusal's number.
+pub fn mend_number(mended: Result<(usize, usize), Refusal>) -> u64
+    requires { IfOk mended (λ records. (records.0 ≤ most_records) × (records.1 ≤ greatest_session)) }
+    ensures { result ≡ mend_number mended }
 {
-    let refusal = outcome_number(outcome) as u64;
-    let many = count as u64;
-    let from = start as u64;
-    refusal + 256 * many + 4294967296 * from
+    match mended {
+        Ok((count, start)) => ((count as u64) << 8) + ((start as u64) << 32),
+        Err(why) => result_number(Err(why)),
+    }
 }

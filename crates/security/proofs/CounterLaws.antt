@@ -1,18 +1,13 @@
 -- Rules over bytes: the lowest 1 bit cleared, by one computed test; the 1 bits as the program counts them.
 use Prim.Native.Nat.{ℕ, zero, suc, ◌+◌, ◌-◌, ◌/◌, ◌%◌, ◌^◌, ◌<◌}
-use mathlib.Core.List.{List, [], ◌∷◌, ◌++◌}
 use mathlib.Core.Path.{◌≡◌, refl, ap, ◌∙◌}
 use native.Mathlib.Nat.{pow-suc}
 use native.Mathlib.Omega.{arith}
 use lib.Bits.{bit_and}
 use lib.Count.{ones, ones_step}
-use lib.ListN.{length, drop, set}
-use Rattle.model.specs.Lists.{at, tab}
 use Rattle.model.specs.Bits.{bit_count, spent_counter, tries_left}
-use Rattle.model.specs.At88sc1608.{at88sc1608, counter_at, attempts_at}
+use Rattle.model.specs.At88sc1608.{at88sc1608}
 use Rattle.model.specs.Device as model
-use Rattle.laws.specs.BitLaws.{bits_most}
-use Rattle.laws.specs.Loops.{tab_last}
 use Rattle.laws.specs.Tables.{agree_at}
 
 pub cleared : (x : ℕ) → x < 256 → bit_and x (x - 1) ≡ spent_counter x
@@ -29,20 +24,6 @@ pub ones_left : (x : ℕ) → x < 256 → ones x ≡ tries_left x
 unfolding tries_left
 ones_left = counted 8
 
-pub ones_small : (x : ℕ) → x < 256 → ones x < 256
-ones_small x h = let e = counted 8 x h in let m = bits_most 8 x in omega arith
-
 -- a failed attempt
-pub spent_zero : (x : ℕ) → x ≡ 0 → record { value = 0; tries = 0 } ≡ model.spent at88sc1608 x
-unfolding spent_counter tries_left
-spent_zero x e = rw e
-
 pub spent_one : (x v t : ℕ) → x < 256 → v ≡ bit_and x (x - 1) → t ≡ tries_left v → record { value = v; tries = t } ≡ model.spent at88sc1608 x
 spent_one x v t h e q = let w = e ∙ cleared x h in λ i. record { value = w i; tries = (q ∙ ap tries_left w) i }
-
--- the tries left of all counters, from those of the passwords and that of authentication
-pub all_tries : (c d l : List ℕ) (v : ℕ) → l ≡ tab (λ k. tries_left (at c (counter_at k))) 16 ++ drop 16 d → length d ≡ 17 → v ≡ tries_left (at c attempts_at)
-    → set l 16 v ≡ model.tries_of at88sc1608 c
-unfolding model.tries_of
-all_tries c d l v e h q =
-    tab_last (λ k. tries_left (at c (counter_at k))) 16 v d l e h ∙ ap (λ (n : ℕ). tab (λ k. tries_left (at c (counter_at k))) 16 ++ (n ∷ [])) q

@@ -1,4 +1,3 @@
-mod AuthenticationLaws
-mod CounterLaws
-mod FuseLaws
+pub mod CounterLaws
+mod CryptogramLaws
 mod PasswordLaws

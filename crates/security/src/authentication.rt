@@ -7,12 +7,13 @@ ghost use Rattle.security.specs.Cryptogram.{renewed};
 ghost use Rattle.access.specs.VolatileState.{volatile_of};
 ghost use Rattle.security.specs.Report.{report_of};
 
-use crate::counter::spent;
-use crate::report::Report;
-use access::volatile::{Authentication, Volatile, authenticating, is_begun};
+use crate::counter::{SpentCounter, spent};
+use crate::report::{Report, reporting};
+use access::volatile::{Authentication, Volatile};
 use sizes::{ATTEMPTS, CRYPTOGRAM};
 
 // helper: begin authentication.
+#[tactic(auto, unfolding(model::specs::Apply::apply))]
 pub fn begin_authentication(card: &mut [u8], state: Volatile) -> Report
     requires { length card.old ≡ card_size }
     ensures report { report_of result [] ≡ (apply card.old (volatile_of state) begin_authentication).report }
@@ -20,13 +21,13 @@ pub fn begin_authentication(card: &mut [u8], state: Volatile) -> Report
 {
     let count = card[ATTEMPTS];
     if count == 0 {
-        return Report { state, tries: 0 };
+        return reporting(state);
     }
-    let after = spent(count);
-    card[ATTEMPTS] = after.value;
+    let SpentCounter { value, tries } = spent(count);
+    card[ATTEMPTS] = value;
     Report {
-        state: authenticating(state, Authentication::Begun),
-        tries: after.tries,
+        state: state.authenticating(Authentication::Begun),
+        tries,
     }
 }
 
@@ -35,14 +36,11 @@ fn renew(card: &mut [u8], bytes: &[u8])
     requires { (length card.old ≡ card_size) × (length bytes.now ≡ 8) }
     ensures { card.new ≡ renewed bytes.now card.old }
 {
-    let mut i = 0;
-    while i < 8 {
-        card[CRYPTOGRAM + i] = bytes[i];
-        i += 1;
-    }
+    card[CRYPTOGRAM..CRYPTOGRAM + 8].copy_from_slice(bytes);
 }
 
 // helper: verify authentication.
+#[tactic(auto, unfolding(model::specs::Apply::apply))]
 pub fn verify_authentication(
     card: &mut [u8],
     state: Volatile,
@@ -53,20 +51,13 @@ pub fn verify_authentication(
     ensures report { report_of result [] ≡ (apply card.old (volatile_of state) (verify_authentication verdict bytes.now)).report }
     ensures card { card.new ≡ (apply card.old (volatile_of state) (verify_authentication verdict bytes.now)).card }
 {
-    let authentication = state.authentication;
-    if !is_begun(authentication) {
-        return Report { state, tries: 0 };
+    if !state.is_begun() {
+        return reporting(state);
     }
-    if verdict {
-        renew(card, bytes);
-        card[ATTEMPTS] = 255;
-        return Report {
-            state: authenticating(state, Authentication::Granted),
-            tries: 0,
-        };
+    if !verdict {
+        return reporting(state.authenticating(Authentication::Idle));
     }
-    Report {
-        state: authenticating(state, Authentication::Idle),
-        tries: 0,
-    }
+    renew(card, bytes);
+    card[ATTEMPTS] = 255;
+    reporting(state.authenticating(Authentication::Granted))
 }

@@ -24,20 +24,18 @@ pub fn counter_at(selector: u8) -> usize
 }
 
 // The tries that a counter leaves: its 1 bits.
+#[tactic(auto, using(crate::proofs::CounterLaws::ones_left))]
 pub fn tries_left(counter: u8) -> u8
     ensures { result ≡ tries_left counter }
 {
-    u8::count_ones(counter) as u8
+    counter.count_ones() as u8
 }
 
 // A failed attempt: the lowest 1 bit is cleared.
 pub fn spent(counter: u8) -> SpentCounter
     ensures { spent_of result ≡ model.spent at88sc1608 counter }
 {
-    if counter == 0 {
-        return SpentCounter { value: 0, tries: 0 };
-    }
-    let value = counter & (counter - 1);
+    let value = counter & counter.saturating_sub(1);
     SpentCounter {
         value,
         tries: tries_left(value),
@@ -49,11 +47,9 @@ pub fn tries_of(card: &[u8]) -> [u8; COUNTERS]
     requires { length card.now ≡ card_size }
     ensures { result ≡ model.tries_of at88sc1608 card.now }
 {
-    let mut tries = [0u8; COUNTERS];
-    let mut k = 0;
-    while k < 16 {
+    let mut tries = [0; COUNTERS];
+    for k in 0..16 {
         tries[k] = tries_left(card[counter_at(k as u8)]);
-        k += 1;
     }
     tries[16] = tries_left(card[ATTEMPTS]);
     tries

@@ -6,29 +6,28 @@ ghost use Rattle.model.specs.Instruction.{write_fuses};
 ghost use Rattle.model.specs.Single.{apply};
 ghost use Rattle.access.specs.VolatileState.{volatile_of};
 
-use access::volatile::{Volatile, is_active};
+use access::volatile::Volatile;
 use sizes::FUSES;
 
 // The fuse byte after one more fuse is blown.
+#[tactic(auto, unfolding(model::specs::At88sc1608::blow))]
 pub fn blown(fuses: u8) -> u8
     ensures { result ≡ blow fuses }
 {
-    if fuses == 7 {
-        return 6;
+    match fuses {
+        7 => 6,
+        6 => 4,
+        _ => 0,
     }
-    if fuses == 6 {
-        return 4;
-    }
-    0
 }
 
 // helper: write fuses, for whom write password 7 is active.
+#[tactic(auto, unfolding(model::specs::Apply::apply))]
 pub fn write_fuses(card: &mut [u8], state: Volatile)
     requires { length card.old ≡ card_size }
     ensures { card.new ≡ (apply card.old (volatile_of state) write_fuses).card }
 {
-    let active = state.active;
-    if is_active(active, 7) {
+    if state.is_active(7) {
         card[FUSES] = blown(card[FUSES]);
     }
 }

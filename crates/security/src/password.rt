@@ -10,9 +10,9 @@ ghost use Rattle.security.specs.Password.{settled};
 ghost use Rattle.access.specs.VolatileState.{volatile_of};
 ghost use Rattle.security.specs.Report.{report_of};
 
-use crate::counter::{counter_at, spent};
-use crate::report::Report;
-use access::volatile::{Active, Volatile, activating};
+use crate::counter::{SpentCounter, counter_at, spent};
+use crate::report::{Report, reporting};
+use access::volatile::Volatile;
 use slices::word_at;
 
 // Whether three bytes are the password of a selector.
@@ -24,6 +24,7 @@ fn is_password(card: &[u8], selector: u8, bytes: &[u8]) -> bool
 }
 
 // The counter of a presentation moves, and with it the active password.
+#[tactic(auto, unfolding(crate::specs::Password::settled, model::specs::Bits::tries_left))]
 fn settle(card: &mut [u8], state: Volatile, selector: u8, right: bool) -> Report
     requires { length card.old ≡ card_size }
     ensures report { report_of result [] ≡ (settled card.old (volatile_of state) selector right).report }
@@ -32,24 +33,25 @@ fn settle(card: &mut [u8], state: Volatile, selector: u8, right: bool) -> Report
     let at = counter_at(selector);
     let count = card[at];
     if count == 0 {
-        return Report { state, tries: 0 };
+        return reporting(state);
     }
     if right {
         card[at] = 255;
         return Report {
-            state: activating(state, Active::Selector(selector)),
+            state: state.activating(Some(selector)),
             tries: 8,
         };
     }
-    let after = spent(count);
-    card[at] = after.value;
+    let SpentCounter { value, tries } = spent(count);
+    card[at] = value;
     Report {
-        state: activating(state, Active::None),
-        tries: after.tries,
+        state: state.activating(None),
+        tries,
     }
 }
 
 // helper: verify password.
+#[tactic(auto, unfolding(crate::specs::Password::settled, model::specs::Apply::apply))]
 pub fn verify_password(card: &mut [u8], state: Volatile, selector: u8, bytes: &[u8]) -> Report
     requires { (length card.old ≡ card_size) × (length bytes.now ≡ 3) }
     ensures report { report_of result [] ≡ (apply card.old (volatile_of state) (verify_password selector bytes.now)).report }

@@ -5,8 +5,8 @@ use mathlib.Core.List.{List, [], ◌∷◌, ◌++◌, append_assoc, append-nil}
 use mathlib.Core.Path.{◌≡◌, refl, sym, ap, subst, ◌∙◌}
 use native.Mathlib.Omega.{arith}
 use lib.Dec.{ltb}
-use lib.ListN.{length, take, drop, length-append, length-take, length-drop, take-append-drop, drop_of_length-le}
-use lib.Seq.{sets, sets-eq, length-sets, drop-append-le, drop-drop, take_all, length-take-le}
+use lib.ListN.{length, take, drop, length-append, length-take, length-drop, take-append-drop}
+use lib.Seq.{sets, sets-eq, length-sets, drop-append-le, drop-drop, length-take-le}
 use Rattle.model.specs.Sizes.{card_size, least_session, least_log}
 use Rattle.laws.specs.NumberLaws.{sets_append}
 use Rattle.model.specs.At88sc1608.{at88sc1608}
@@ -180,12 +180,12 @@ module _ (part : List ℕ) (m : Powered State) (log : List ℕ) (place : ℕ) (r
 
 -- ---- the records
 
--- what is known while records are left: the instructions left lead to the same card and the same log
-pub record Going (s : List ℕ) (start count : ℕ) (c₀ log₀ : List ℕ) (at place left : ℕ) (c : List ℕ) (v : State) (log : List ℕ) : Type 0 where
+-- what is known when some of the records are done: the instructions left lead to the same card and the same log
+pub record Going (s : List ℕ) (start count : ℕ) (c₀ log₀ : List ℕ) (at place done : ℕ) (c : List ℕ) (v : State) (log : List ℕ) : Type 0 where
   pub instructions : List Instruction
   pub rest : List Instruction
   pub reads : read_from count s start ≡ all instructions (records_end (length s))
-  pub left_reads : read_from left s at ≡ all rest (records_end (length s))
+  pub left_reads : read_from (count - done) s at ≡ all rest (records_end (length s))
   pub forth : at ≤ records_end (length s)
   pub good : Good c v
   pub long : length log ≡ length log₀
@@ -196,14 +196,14 @@ pub record Going (s : List ℕ) (start count : ℕ) (c₀ log₀ : List ℕ) (at
       ≡ sets log₀ 0 (entries_bytes zoned (entries_of instructions (powered c₀ power_on)))
 
 pub going_start : (s : List ℕ) (start count : ℕ) (c log : List ℕ) (v : State) → v ≡ power_on → RecordsReady s start count c log
-    → Going s start count c log start 0 count c v log
+    → Going s start count c log start 0 0 c v log
 going_start s start count c log v e r =
     rw e
     (record {
       instructions = r.instructions;
       rest = r.instructions;
       reads = r.reads;
-      left_reads = r.reads;
+      left_reads = (let e : count - 0 ≡ count = omega arith in ap (λ (n : ℕ). read_from n s start) e) ∙ r.reads;
       forth = r.within;
       good = r.good;
       long = refl;
@@ -213,14 +213,14 @@ going_start s start count c log v e r =
       bytes = refl;
     })
 
-module _ (s : List ℕ) (start count : ℕ) (c₀ log₀ : List ℕ) (at place left : ℕ) (c : List ℕ) (v : State) (log : List ℕ)
-    (g : Going s start count c₀ log₀ at place left c v log) where
-  module _ (some : 0 < left) where
-    one_fewer : left ≡ suc (left - 1)
+module _ (s : List ℕ) (start count : ℕ) (c₀ log₀ : List ℕ) (at place done : ℕ) (c : List ℕ) (v : State) (log : List ℕ)
+    (g : Going s start count c₀ log₀ at place done c v log) where
+  module _ (some : done < count) where
+    one_fewer : count - done ≡ suc (count - (done + 1))
     one_fewer = omega arith
 
-    next : First (left - 1) s at g.rest (records_end (length s))
-    next = read_first (left - 1) s at g.rest (records_end (length s)) (ap (λ (n : ℕ). read_from n s at) (sym one_fewer) ∙ g.left_reads)
+    next : First (count - (done + 1)) s at g.rest (records_end (length s))
+    next = read_first (count - (done + 1)) s at g.rest (records_end (length s)) (ap (λ (n : ℕ). read_from n s at) (sym one_fewer) ∙ g.left_reads)
 
     next_room : place + full_entry next.command < length log
     next_room = let q = ap full_total next.list in let r = g.room in omega arith
@@ -262,13 +262,13 @@ module _ (s : List ℕ) (start count : ℕ) (c₀ log₀ : List ℕ) (at place l
       end_most = let q = end_same in let l = entry_length (powered c v) k in let g = given_most at88sc1608 c v k in omega arith
 
       pub going_next : (h : Head) → h ≡ head_of (part_at s at) → (e : ℕ) → e ≡ 1 + fixed_fields h.kind + data_length h.kind h.n
-          → Going s start count c₀ log₀ (at + e) end (left - 1) c' v' log'
+          → Going s start count c₀ log₀ (at + e) end (done + 1) c' v' log'
       going_next h head e ends =
           record {
             instructions = g.instructions;
             rest = next.others;
             reads = g.reads;
-            left_reads = ap (λ (x : ℕ). read_from (left - 1) s (at + x)) (next_size h head e ends) ∙ next.rest;
+            left_reads = ap (λ (x : ℕ). read_from (count - (done + 1)) s (at + x)) (next_size h head e ends) ∙ next.rest;
             forth = going_forth h head e ends;
             good =
                 subst (λ (m : Powered State). Good m.card m.state) (sym same)
@@ -304,9 +304,9 @@ module _ (s : List ℕ) (start count : ℕ) (c₀ log₀ : List ℕ) (at place l
               ≡ length (entry_bytes zoned (logged (powered c v) k)) + length (entries_bytes zoned (entries_of next.others (after (powered c v) k)))
           entries_split = length-append (entry_bytes zoned (logged (powered c v) k)) (entries_bytes zoned (entries_of next.others (after (powered c v) k)))
 
-  pub going_done : left ≤ 0 → RecordsRun s start count c₀ log₀ c log place
+  pub going_done : count ≤ done → RecordsRun s start count c₀ log₀ c log place
   going_done h =
-      let z : left ≡ 0 = omega arith in
+      let z : count - done ≡ 0 = omega arith in
       let e = (read_none s at g.rest (records_end (length s)) (ap (λ (n : ℕ). read_from n s at) (sym z) ∙ g.left_reads)).0 in
       record {
         instructions = g.instructions;
@@ -320,13 +320,11 @@ module _ (s : List ℕ) (start count : ℕ) (c₀ log₀ : List ℕ) (at place l
 
 -- ---- the log
 
-pub sets_whole : (l vs : List ℕ) → length vs ≡ length l → sets l 0 vs ≡ vs
-sets_whole l vs e =
-    sets-eq vs l 0 (omega arith) ∙ ap (λ (x : List ℕ). vs ++ x) (drop_of_length-le l (let h : length l ≤ 0 + length vs = omega arith in h)) ∙ append-nil vs
-
--- the card that is copied from a session
-pub card_copied : (s blank card : List ℕ) → card_size ≤ length s → length blank ≡ card_size → card ≡ sets blank 0 (take card_size s) → card ≡ card_of s
-card_copied s blank card long size copied = copied ∙ sets_whole blank (take card_size s) (length-take-le card_size s long ∙ sym size)
+-- what replaces a lent part is put into the whole
+replaced : (l : List ℕ) (a n : ℕ) (vs : List ℕ) → n ≡ length vs → a + length vs ≤ length l → take a l ++ (vs ++ drop n (drop a l)) ≡ sets l a vs
+replaced l a n vs e h =
+    ap (λ (x : List ℕ). take a l ++ (vs ++ x)) (ap (λ (m : ℕ). drop m (drop a l)) e ∙ drop-drop (length vs) a l)
+    ∙ sym (append_assoc (take a l) vs _) ∙ sym (sets-eq vs l a h)
 
 module _ (s log : List ℕ) (r : LogReady s log) where
   pub session_long : least_session ≤ length s
@@ -366,15 +364,16 @@ module _ (s log : List ℕ) (r : LogReady s log) where
       pub entries_room : entries + least_log ≤ length log
       entries_room = let e = entries_is in let m = entries_most ks (initial s) in let q = r.room in omega arith
 
-      pub log_written : (log₂ log₃ : List ℕ) → log₂ ≡ sets log₁ entries (take card_size card')
-          → log₃ ≡ sets log₂ (entries + card_size) (log_trailer zoned entries count) → LogWritten s log (entries + least_log) log₃
-      log_written log₂ log₃ e₂ e₃ =
+      pub log_written : (copied log₂ : List ℕ) (k : ℕ) → copied ≡ card' → k ≡ card_size
+          → log₂ ≡ sets (take entries log₁ ++ (copied ++ drop k (drop entries log₁))) (entries + card_size) (log_trailer zoned entries count)
+          → LogWritten s log (entries + least_log) log₂
+      log_written copied log₂ k e n e₂ =
           record {
             instructions = ks;
             reads = r.reads;
             size_is = sizes;
             bytes =
-                e₃ ∙ (λ t. sets (second t) (third_place t) (log_trailer zoned (entries_is t) (count_is t)))
+                e₂ ∙ (λ t. sets (second t) (third_place t) (log_trailer zoned (entries_is t) (count_is t)))
                 ∙ sets_append log 0 (front ++ final) (log_trailer zoned (length front) (length (entries_of ks (initial s))))
                 ∙ ap (sets log 0) (append_assoc front final _);
           }
@@ -382,8 +381,8 @@ module _ (s log : List ℕ) (r : LogReady s log) where
           first : log₁ ≡ sets log 0 front
           first = w.bytes ∙ (λ t. sets log 0 (entries_bytes zoned (entries_of (ks_same t) (powered (card_is t) power_on))))
 
-          final_is : card' ≡ final
-          final_is = w.card ∙ (λ t. (end_of (ks_same t) (powered (card_is t) power_on)).card)
+          final_is : copied ≡ final
+          final_is = e ∙ w.card ∙ (λ t. (end_of (ks_same t) (powered (card_is t) power_on)).card)
 
           final_long : length final ≡ card_size
           final_long = end_length ks (initial s) ∙ length-take-le card_size s (let l = session_long in omega arith)
@@ -400,10 +399,16 @@ module _ (s log : List ℕ) (r : LogReady s log) where
           second_place : entries ≡ 0 + length front
           second_place = let e = entries_is in omega arith
 
-          second : log₂ ≡ sets log 0 (front ++ final)
+          copied_long : length copied ≡ card_size
+          copied_long = ap length final_is ∙ final_long
+
+          first_long : length log₁ ≡ length log
+          first_long = ap length first ∙ length-sets log 0 front
+
+          second : take entries log₁ ++ (copied ++ drop k (drop entries log₁)) ≡ sets log 0 (front ++ final)
           second =
-              e₂ ∙ (λ t. sets (first t) (second_place t) (take card_size (final_is t)))
-              ∙ ap (sets (sets log 0 front) (0 + length front)) (take_all card_size final (let l = final_long in omega arith)) ∙ sets_append log 0 front final
+              replaced log₁ entries k copied (n ∙ sym copied_long) (let r = entries_room in let l = copied_long in let f = first_long in omega arith)
+              ∙ (λ t. sets (first t) (second_place t) (final_is t)) ∙ sets_append log 0 front final
 
           third_place : entries + card_size ≡ 0 + length (front ++ final)
           third_place = let e = entries_is in let l = final_long in let a = length-append front final in omega arith

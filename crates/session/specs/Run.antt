@@ -1,5 +1,5 @@
 -- What the run of a session asks of its parts, and what they leave.
-use Rattle.std.specs.Prelude.{ℕ, ◌+◌, ◌≤◌, ◌<◌, List, ◌≡◌, length}
+use Rattle.std.specs.Prelude.{ℕ, ◌+◌, ◌≤◌, ◌<◌, List, Result, Ok, Err, ◌≡◌, length}
 use Rattle.std.proofs.lemmas.List.Edits.{sets}
 use Rattle.model.specs.Sizes.{least_log}
 use Rattle.model.specs.Call.{Powered, powered, whole}
@@ -12,12 +12,13 @@ use Rattle.laws.specs.Sane.{Good}
 use Rattle.model.specs.Session as model
 use Rattle.model.specs.State.{State, power_on}
 use Rattle.properties.specs.SessionLaws.{full_total}
-use Rattle.record.specs.RefusalNumber.{outcome_number}
-use Rattle.session.specs.declared.result.Run.{Run}
+use Rattle.record.specs.RefusalNumber.{refusal_number}
+use Rattle.record.specs.declared.refusal.Refusal.{Refusal}
 
--- the result with the log space at exit
-abbrev pub ran_of : Run → List ℕ → model.Ran
-ran_of r space = record { refusal = outcome_number r.outcome; size = r.size; space = space }
+-- the result with the log space at exit; a refusal leaves no log
+abbrev pub ran_of : Result ℕ Refusal → List ℕ → model.Ran
+ran_of (Err why) space = record { refusal = refusal_number why; size = 0; space = space }
+ran_of (Ok size) space = record { refusal = 0; size = size; space = space }
 
 -- ---- one record
 

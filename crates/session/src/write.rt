@@ -7,15 +7,13 @@ ghost use Rattle.busy.specs.TimedState.{state_of};
 ghost use Rattle.record.specs.DecodedRecord.{head_of};
 ghost use Rattle.session.specs.Run.{EntryReady, EntryWritten, RecordsReady, RecordsRun, LogReady, LogWritten};
 
-use busy::{State, is_halted, is_ignored, power_on};
+use busy::{State, is_halted, is_ignored};
 use carry::carry_out;
-use kinds::{answer_length, record_length};
 use reader::records_end;
 use record::decoder::{Head, head_of};
-use record::number::{get2, get4};
+use record::number;
 use session_log::write::{put_header, put_trailer};
 use sizes::{CARD, LEAST_LOG, TRAILER};
-use slices::copy;
 
 // The state after a record, and where its entry ends.
 #[derive(Clone, Copy)]
@@ -43,19 +41,13 @@ fn write_entry(
         let end = put_header(log, place, head.kind + 128, 0, zone);
         return Entered { state, end };
     }
-    let response = answer_length(head.kind, head.n) as usize;
+    let kind = head.kind();
+    let response = kind.answer_length(head.n) as usize;
     let from = put_header(log, place, head.kind, response, zone);
-    let end = record_length(head.kind, head.n);
+    let end = kind.record_length(head.n);
     let done = carry_out(card, state, head, part, end, &mut log[from..]);
-    let after = done.state;
-    let volatile = after.volatile;
-    let power = after.power;
     Entered {
-        state: State {
-            volatile,
-            busy: after.busy,
-            power,
-        },
+        state: done.state,
         end: from + response,
     }
 }
@@ -66,17 +58,16 @@ fn run_records(session: &[u8], start: usize, count: usize, card: &mut [u8], log:
     ensures { RecordsRun session.now start count card.old log.old card.new log.new result }
 {
     let end = records_end(session);
-    let mut state = power_on();
+    let mut state = State::power_on();
     let mut at = start;
     let mut place = 0;
-    let mut left = count;
-    while 0 < left {
-        let head = head_of(&session[at..end]);
-        let entered = write_entry(&session[at..end], head, card, state, log, place);
+    for _ in 0..count {
+        let part = &session[at..end];
+        let head = head_of(part);
+        let entered = write_entry(part, head, card, state, log, place);
         state = entered.state;
-        at += record_length(head.kind, head.n);
+        at += head.kind().record_length(head.n);
         place = entered.end;
-        left -= 1;
     }
     place
 }
@@ -86,8 +77,8 @@ fn card_of(session: &[u8]) -> [u8; CARD]
     requires { card_size ≤ length session.now }
     ensures { result ≡ card_of session.now }
 {
-    let mut card = [0u8; CARD];
-    copy(&mut card, 0, session, 0, CARD);
+    let mut card = [0; CARD];
+    card.copy_from_slice(&session[..CARD]);
     card
 }
 
@@ -97,11 +88,11 @@ pub fn write_log(session: &[u8], log: &mut [u8]) -> usize
     ensures { LogWritten session.now log.old result log.new }
 {
     let length = session.len();
-    let start = get4(session, length - TRAILER);
-    let count = get2(session, length - 4);
+    let start = number::get::<4>(session, length - TRAILER);
+    let count = number::get::<2>(session, length - 4);
     let mut card = card_of(session);
     let entries = run_records(session, start, count, &mut card, log);
-    copy(log, entries, &card, 0, CARD);
+    log[entries..entries + CARD].copy_from_slice(&card);
     put_trailer(log, entries + CARD, entries, count);
     entries + LEAST_LOG
 }

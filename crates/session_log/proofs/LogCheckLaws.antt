@@ -1,11 +1,11 @@
 -- The check of a log, from what the tests of the code found, in their order.
 use Prim.Native.Nat.{ℕ, zero, suc, ◌+◌, ◌-◌, ◌≤◌, ◌<◌}
-use mathlib.Core.Bool.{Bool, true, false, cond, not, ◌&&◌, ◌||◌, true≢false}
+use mathlib.Core.Bool.{Bool, true, false, cond, ◌&&◌, ◌||◌, true≢false}
 use mathlib.Core.List.{List}
 use mathlib.Core.Path.{◌≡◌, refl, sym, ap, ◌∙◌}
 use native.Mathlib.Omega.{arith}
-use borrow.Author.Tests.{le-leb, lt-leb, eq-eqb, ne_eqb, eqb-true, eqb-false, not-true, not-false}
-use lib.Dec.{leb, eqb}
+use borrow.Author.Tests.{le-leb, lt-leb, lt-ltb, le-ltb, ltb-true, ltb-false, eq-eqb, ne_eqb}
+use lib.Dec.{ltb, leb, eqb}
 use lib.ListN.{length, drop}
 use Rattle.model.specs.Sizes.{fuse_at, least_log, most_records}
 use Rattle.model.specs.Lists.{at}
@@ -17,7 +17,9 @@ use Rattle.properties.specs.LogLaws.{Entered, entered, entry_well}
 use Rattle.model.specs.Record.{known, length_fits}
 use Rattle.model.specs.Single.{is_fuse_byte, staging_fits}
 use Rattle.laws.specs.KindLaws.{known_within}
-use Rattle.session_log.specs.Scan.{HeaderRead, Scanned}
+use Rattle.session_log.specs.Scan.{response_of, HeaderRead, Scanned}
+use Rattle.session_log.specs.declared.check.Place.{Place}
+use Rattle.std.specs.Prelude.{Option, Some, None, Ok, Err}
 
 -- ---- the kind byte and the response's length of an entry
 
@@ -47,10 +49,10 @@ pub record Begun (l : List ℕ) (i from : ℕ) : Type 0 where
   pub begins : from ≡ response_at zoned l i
 
 module _ (l : List ℕ) (i last : ℕ) where
-  none_read : (from : ℕ) → (Entered zoned l i last → ⊥) → HeaderRead l i last from 0
-  none_read from bad = record { ends = go (entry_ok zoned l i last) refl; begins = λ z. absurd (z refl) }
+  none_read : (Entered zoned l i last → ⊥) → HeaderRead l i last None
+  none_read bad = record { well = go (entry_ok zoned l i last) refl; place = tt }
     where
-      go : (t : Bool) → entry_ok zoned l i last ≡ t → 0 ≡ cond t (next_entry zoned l i) 0
+      go : (t : Bool) → entry_ok zoned l i last ≡ t → false ≡ t
       go true e = absurd (bad (entered zoned l i last e))
       go false e = refl
 
@@ -60,8 +62,8 @@ module _ (l : List ℕ) (i last : ℕ) where
       unfolding zone_fits
       zone_is = rw (sym names ∙ t)
 
-      pub bad_zone : 7 < at l (i + 3) → (from : ℕ) → HeaderRead l i last from 0
-      bad_zone h from = none_read from (λ w. true≢false (sym w.zone ∙ zone_is ∙ lt-leb _ _ h))
+      pub bad_zone : 7 < at l (i + 3) → HeaderRead l i last None
+      bad_zone h = none_read (λ w. true≢false (sym w.zone ∙ zone_is ∙ lt-leb _ _ h))
 
       pub begun_named : at l (i + 3) ≤ 7 → (from : ℕ) → from ≡ i + 4 → Begun l i from
       begun_named h from e = record { zone = zone_is ∙ le-leb _ _ h; begins = e ∙ ap (λ (n : ℕ). i + n) (header_four zoned (at l i) named names t) }
@@ -75,24 +77,24 @@ module _ (l : List ℕ) (i last : ℕ) where
       begun_unnamed from e = record { zone = unnamed_fits; begins = e ∙ ap (λ (n : ℕ). i + n) (header_three zoned (at l i) named names t) }
 
   module _ (n from : ℕ) (long : n ≡ length_at l i) (b : Begun l i from) where
-    pub beyond : last < from + n → HeaderRead l i last from 0
-    beyond h = none_read from (λ w. let e = b.begins in let m = w.next in let z : ⊥ = omega arith in z)
+    pub beyond : last < from + n → HeaderRead l i last None
+    beyond h = none_read (λ w. let e = b.begins in let m = w.next in let z : ⊥ = omega arith in z)
 
     module _ (ok : Bool) (fits : ok ≡ entry_fits (at l i) n) where
       fits_is : ok ≡ entry_fits (at l i) (length_at l i)
       fits_is = fits ∙ ap (entry_fits (at l i)) long
 
-      pub misfit : not ok ≡ true → HeaderRead l i last from 0
-      misfit t = none_read from (λ w. true≢false (sym w.fits ∙ sym fits_is ∙ not-true ok t))
+      pub misfit : ok ≡ false → HeaderRead l i last None
+      misfit t = none_read (λ w. true≢false (sym w.fits ∙ sym fits_is ∙ t))
 
-      pub well_read : from + n ≤ last → not ok ≡ false → HeaderRead l i last from (from + n)
+      pub well_read : from + n ≤ last → ok ≡ true → HeaderRead l i last (Some (record { from = from; length = n }))
       well_read h t =
           let e = b.begins in
           let m = header_least zoned (at l i) in
-          let next : from + n ≡ next_entry zoned l i = omega arith in
-          let whole = entry_well zoned l i last
-          (record { header = omega arith; fits = sym fits_is ∙ not-false ok t; zone = b.zone; next = omega arith }) in
-          record { ends = rw whole next; begins = λ z. e }
+          record {
+            well = sym (entry_well zoned l i last (record { header = omega arith; fits = sym fits_is ∙ t; zone = b.zone; next = omega arith }));
+            place = λ j. record { from = b.begins j; length = long j };
+          }
 
 -- ---- the walk over the entries
 
@@ -101,18 +103,21 @@ place_next : (k : ℕ) (l : List ℕ) (i : ℕ) → entry_place zoned (suc k) l 
 place_next zero l i = refl
 place_next (suc k) l i = place_next k l (next_entry zoned l i)
 
+-- where the response of the entry with a number lies, once as many entries are passed
+abbrev pub kept_of : List ℕ → ℕ → ℕ → Option Place
+kept_of l number i = cond (ltb number i) (Some (response_of l (entry_place zoned number l 0))) None
+
 -- what is known before entry i of count: the rest decides, each header so far was counted, and the response asked for is kept once it is passed
-pub record Walking (l : List ℕ) (count end number i place headers from to : ℕ) : Type 0 where
+pub record Walking (l : List ℕ) (count end number i place headers : ℕ) (kept : Option Place) : Type 0 where
   pub few : i ≤ count
   pub within : place ≤ end
   pub rest : entries_ok zoned (count - i) l place end ≡ entries_ok zoned count l 0 end
   pub each : headers ≡ i
   pub counted : headers + headers_read zoned (count - i) l place end ≡ headers_read zoned count l 0 end
   pub here : place ≡ entry_place zoned i l 0
-  pub begins : number < i → from ≡ response_at zoned l (entry_place zoned number l 0)
-  pub ends : number < i → to ≡ next_entry zoned l (entry_place zoned number l 0)
+  pub keeps : kept ≡ kept_of l number i
 
-pub walking_start : (l : List ℕ) (count end number : ℕ) → Walking l count end number 0 0 0 0 0
+pub walking_start : (l : List ℕ) (count end number : ℕ) → Walking l count end number 0 0 0 None
 walking_start l count end number =
     let z : count - 0 ≡ count = omega arith in
     record {
@@ -122,22 +127,11 @@ walking_start l count end number =
       each = refl;
       counted = ap (λ (n : ℕ). 0 + headers_read zoned n l 0 end) z ∙ (omega arith);
       here = refl;
-      begins = λ h. absurd (let z : ⊥ = omega arith in z);
-      ends = λ h. absurd (let z : ⊥ = omega arith in z);
+      keeps = rw (le-ltb number 0 (omega arith));
     }
 
--- what is kept of an entry, or was before
-kept_at : (f : ℕ → ℕ) (l : List ℕ) (i number place x old kept : ℕ) → place ≡ entry_place zoned i l 0 → x ≡ f place
-    → (number < i → old ≡ f (entry_place zoned number l 0)) → kept ≡ cond (eqb i number) x old
-    → number < i + 1 → kept ≡ f (entry_place zoned number l 0)
-kept_at f l i number place x old kept here is held e g = e ∙ go (eqb i number) refl
-  where
-    go : (t : Bool) → eqb i number ≡ t → cond t x old ≡ f (entry_place zoned number l 0)
-    go true q = is ∙ ap f (here ∙ ap (λ (m : ℕ). entry_place zoned m l 0) (eqb-true i number q))
-    go false q = let ne : i ≡ number → ⊥ = eqb-false i number q in held (omega arith)
-
-module _ (l : List ℕ) (count end number i place headers from to : ℕ) (p : Walking l count end number i place headers from to) (less : i < count)
-    (first next : ℕ) (read : HeaderRead l place end first next) where
+module _ (l : List ℕ) (count end number i place headers : ℕ) (kept : Option Place) (p : Walking l count end number i place headers kept)
+    (less : i < count) where
   one_fewer : count - i ≡ suc (count - (i + 1))
   one_fewer = omega arith
 
@@ -148,63 +142,72 @@ module _ (l : List ℕ) (count end number i place headers from to : ℕ) (p : Wa
       ≡ headers + suc (cond (entry_ok zoned l place end) (headers_read zoned (count - (i + 1)) l (next_entry zoned l place) end) 0)
   counted_is = sym p.counted ∙ ap (λ (n : ℕ). headers + headers_read zoned n l place end) one_fewer
 
-  -- an entry ends past its place, so 0 tells of none
-  well : (next ≡ 0 → ⊥) → (entry_ok zoned l place end ≡ true) × (next ≡ next_entry zoned l place)
-  well z = go (entry_ok zoned l place end) refl read.ends
-    where
-      go : (t : Bool) → entry_ok zoned l place end ≡ t → next ≡ cond t (next_entry zoned l place) 0
-          → (entry_ok zoned l place end ≡ true) × (next ≡ next_entry zoned l place)
-      go true q e = (q, e)
-      go false q e = absurd (z e)
+  module _ (from n : ℕ) (read : HeaderRead l place end (Some (record { from = from; length = n }))) where
+    past : from + n ≡ next_entry zoned l place
+    past = ap (λ (q : Place). q.from + q.length) read.place
 
-  none : next ≡ 0 → entry_ok zoned l place end ≡ false
-  none z = go (entry_ok zoned l place end) refl read.ends
-    where
-      go : (t : Bool) → entry_ok zoned l place end ≡ t → next ≡ cond t (next_entry zoned l place) 0 → entry_ok zoned l place end ≡ false
-      go true q e = absurd (let h = header_least zoned (at l place) in let w : ⊥ = omega arith in w)
-      go false q e = q
+    pub entry_within : from + n ≤ end
+    entry_within = rw past (entered zoned l place end (sym read.well)).next
 
-  pub walking_next : (from' to' : ℕ) → (next ≡ 0 → ⊥) → from' ≡ cond (eqb i number) first from → to' ≡ cond (eqb i number) next to
-      → Walking l count end number (i + 1) next (headers + 1) from' to'
-  walking_next from' to' z k k' =
-      let fine = (well z).0 in
-      let past = (well z).1 in
-      let s : suc i ≡ i + 1 = omega arith in
-      let others : headers_read zoned (count - (i + 1)) l next end ≡ headers_read zoned (count - (i + 1)) l (next_entry zoned l place) end =
-      ap (λ (m : ℕ). headers_read zoned (count - (i + 1)) l m end) past in
-      let total : headers_read zoned count l 0 end ≡ headers + suc (headers_read zoned (count - (i + 1)) l (next_entry zoned l place) end) =
-      counted_is ∙ rw fine in
-      record {
-        few = omega arith;
-        within = let w = (entered zoned l place end fine).next in omega arith;
-        rest = ap (λ (m : ℕ). entries_ok zoned (count - (i + 1)) l m end) past ∙ sym (rest_is ∙ rw fine);
-        each = let e = p.each in omega arith;
-        counted = omega arith;
-        here = past ∙ ap (next_entry zoned l) p.here ∙ sym (place_next i l 0) ∙ ap (λ (m : ℕ). entry_place zoned m l 0) s;
-        begins = kept_at (response_at zoned l) l i number place first from from' p.here (read.begins z) p.begins k;
-        ends = kept_at (next_entry zoned l) l i number place next to to' p.here past p.ends k';
-      }
+    others : headers_read zoned (count - (i + 1)) l (from + n) end ≡ headers_read zoned (count - (i + 1)) l (next_entry zoned l place) end
+    others = ap (λ (m : ℕ). headers_read zoned (count - (i + 1)) l m end) past
 
-  pub walking_bad : next ≡ 0 → Scanned l count end number false (headers + 1) from to
-  walking_bad z =
-      let total : headers_read zoned count l 0 end ≡ headers + suc 0 = counted_is ∙ rw (none z) in
-      record {
-        all = sym (rest_is ∙ rw (none z));
-        counted = omega arith;
-        begins = λ e. absurd (true≢false (sym e));
-        ends = λ e. absurd (true≢false (sym e));
-      }
+    total : headers_read zoned count l 0 end ≡ headers + suc (headers_read zoned (count - (i + 1)) l (next_entry zoned l place) end)
+    total = counted_is ∙ rw (sym read.well)
 
-pub walking_done : (l : List ℕ) (count end number i place headers from to : ℕ) → Walking l count end number i place headers from to → count ≤ i
-    → Scanned l count end number (eqb place end) headers from to
-walking_done l count end number i place headers from to p h =
-    let z : 0 ≡ count - i = omega arith in
-    record {
-      all = ap (λ (n : ℕ). entries_ok zoned n l place end) z ∙ p.rest;
-      counted = (let q : headers ≡ headers + 0 = omega arith in q) ∙ ap (λ (n : ℕ). headers + headers_read zoned n l place end) z ∙ p.counted;
-      begins = λ e g. p.begins (omega arith);
-      ends = λ e g. p.ends (omega arith);
-    }
+    walking_next : (kept' : Option Place) → kept' ≡ kept_of l number (i + 1) → Walking l count end number (i + 1) (from + n) (headers + 1) kept'
+    walking_next kept' k =
+        let s : suc i ≡ i + 1 = omega arith in
+        let o = others in
+        let t = total in
+        record {
+          few = omega arith;
+          within = entry_within;
+          rest = ap (λ (m : ℕ). entries_ok zoned (count - (i + 1)) l m end) past ∙ sym (rest_is ∙ rw (sym read.well));
+          each = let e = p.each in omega arith;
+          counted = omega arith;
+          here = past ∙ ap (next_entry zoned l) p.here ∙ sym (place_next i l 0) ∙ ap (λ (m : ℕ). entry_place zoned m l 0) s;
+          keeps = k;
+        }
+
+    pub walking_found : i ≡ number → Walking l count end number (i + 1) (from + n) (headers + 1) (Some (record { from = from; length = n }))
+    walking_found e =
+        walking_next _
+        (ap Some (read.place ∙ ap (response_of l) (p.here ∙ ap (λ (m : ℕ). entry_place zoned m l 0) e)) ∙ rw (lt-ltb number (i + 1) (omega arith)))
+
+    pub walking_on : (i ≡ number → ⊥) → Walking l count end number (i + 1) (from + n) (headers + 1) kept
+    walking_on e = walking_next kept (p.keeps ∙ ap (λ (t : Bool). cond t (Some (response_of l (entry_place zoned number l 0))) None) same)
+      where
+        go : (t : Bool) → ltb number i ≡ t → t ≡ ltb number (i + 1)
+        go true q = sym (lt-ltb number (i + 1) (let h = ltb-true number i q in omega arith))
+        go false q = sym (le-ltb number (i + 1) (let h = ltb-false number i q in omega arith))
+
+        same : ltb number i ≡ ltb number (i + 1)
+        same = go (ltb number i) refl
+
+  module _ (read : HeaderRead l place end None) where
+    pub walking_bad : Scanned l count end number (Err (record { headers = headers + 1 }))
+    walking_bad =
+        let total : headers_read zoned count l 0 end ≡ headers + suc 0 = counted_is ∙ rw (sym read.well) in
+        record { all = sym (rest_is ∙ rw (sym read.well)); counted = omega arith; place = tt }
+
+module _ (l : List ℕ) (count end number i place headers : ℕ) (kept : Option Place) (p : Walking l count end number i place headers kept) (h : count ≤ i) where
+  none_left : 0 ≡ count - i
+  none_left = omega arith
+
+  all_is : eqb place end ≡ entries_ok zoned count l 0 end
+  all_is = ap (λ (n : ℕ). entries_ok zoned n l place end) none_left ∙ p.rest
+
+  counted_all : headers ≡ headers_read zoned count l 0 end
+  counted_all = (let q : headers ≡ headers + 0 = omega arith in q) ∙ ap (λ (n : ℕ). headers + headers_read zoned n l place end) none_left ∙ p.counted
+
+  pub walking_short : (place ≡ end → ⊥) → Scanned l count end number (Err (record { headers = headers }))
+  walking_short e = record { all = sym (ne_eqb _ _ e) ∙ all_is; counted = counted_all; place = tt }
+
+  pub walking_done : place ≡ end → Scanned l count end number (Ok (record { headers = headers; place = kept }))
+  walking_done e =
+      let q : i ≡ count = let f = p.few in omega arith in
+      record { all = sym (eq-eqb _ _ e) ∙ all_is; counted = counted_all; place = p.keeps ∙ ap (kept_of l number) q }
 
 -- ---- the trailer
 
@@ -240,8 +243,8 @@ module _ (l : List ℕ) where
             behind =
                 rw (le-leb _ _ long, eq-eqb _ _ first, eq-eqb _ _ second, ← counted, le-leb _ _ few, ← points, eq-eqb _ _ meets, ← fuses)
 
-            pub no_stage : not stage ≡ true → false ≡ trailer_ok zoned l
-            no_stage t = rw (behind, not-true stage t)
+            pub no_stage : stage ≡ false → stage ≡ trailer_ok zoned l
+            no_stage t = rw (behind, t)
 
-            pub staging_decides : (staging : Bool) → not stage ≡ false → staging ≡ staging_fits (drop offset l) → staging ≡ trailer_ok zoned l
-            staging_decides staging t e = rw (behind, not-false stage t) e
+            pub staging_decides : (staging : Bool) → stage ≡ true → staging ≡ staging_fits (drop offset l) → staging ≡ trailer_ok zoned l
+            staging_decides staging t e = rw (behind, t) e

@@ -1,14 +1,14 @@
 -- What the code finds, as the model has it.
-use Rattle.std.specs.Prelude.{ℕ, ◌+◌, ◌≤◌, List, length}
+use Rattle.std.specs.Prelude.{ℕ, ◌+◌, ◌≤◌, List, length, Result, Ok, Err}
 use Rattle.model.specs.LogCheck as model
+use Rattle.record.specs.declared.refusal.Refusal.{Refusal}
 use Rattle.record.specs.RefusalNumber.{refusal_number}
-use Rattle.session_log.specs.declared.find.Found.{Found}
-use Rattle.session_log.specs.declared.find.Found.TheVariants as found
+use Rattle.session_log.specs.declared.check.Place.{Place}
 use Rattle.session_log.specs.declared.find.Fetched.{Fetched}
 
-abbrev pub found_of : Found → model.Found
-found_of (found.Refused why) = model.missing (refusal_number why)
-found_of (found.At from n) = model.located from n
+abbrev pub found_of : Result Place Refusal → model.Found
+found_of (Err why) = model.missing (refusal_number why)
+found_of (Ok place) = model.located place.from place.length
 
 -- with the headers that were read for it
 abbrev pub fetched_of : Fetched → model.Fetched

@@ -15,20 +15,19 @@ use std::io::Write;
 // Whether the first argument is --box.
 fn is_boxed(rt: &impl Env) -> bool {
     let mut argument = [0u8; 5];
-    match rt.arg(1, &mut argument) {
-        Ok(length) => argument[..length] == b"--box"[..],
-        Err(_) => false,
-    }
+    matches!(rt.arg(1, &mut argument), Ok(length) if argument[..length] == b"--box"[..])
 }
 
-// At the front of the text space, whole: what is printed of a session, for the box or for an exam machine.
+// At the front of the text space, whole: what is printed of a session, for the box or for an exam machine. The switch is no function
+// parameter, since the clause says by it which text is printed.
 fn print_for(boxed: bool, session: &[u8], text: &mut [u8; TEXT_SPACE]) -> usize
     ensures { PrintedText (printed_for boxed session.now) text.old result text.new }
 {
     if boxed {
-        return print_boxed(session, text);
+        print_boxed(session, text)
+    } else {
+        print(session, text)
     }
-    print(session, text)
 }
 
 fn main(rt: HostRuntime) -> io::Result<()> {

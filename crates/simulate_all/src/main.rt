@@ -1,34 +1,28 @@
 // Many sessions from standard input, each behind its length in four bytes, and their listings one after another.
 #![tactic(auto)]
 
-ghost use Rattle.std.specs.Prelude.{◌≤◌, ◌<◌, ◌^◌, length};
+ghost use Rattle.std.specs.Prelude.{◌<◌, ◌^◌};
 
 use input::read_full;
 use listing::print;
-use record::number::get4;
+use record::number;
 use sizes::TEXT_SPACE;
-use slices::least;
 use std::io;
 use std::io::{Read, Write};
 
-// helper: the session between two places.
-fn print_one<W: Write>(out: &mut W, input: &[u8], from: usize, to: usize) -> io::Result<()>
-    requires { (from ≤ to) × (to ≤ length input.now) }
-{
+fn print_one<W: Write>(out: &mut W, session: &[u8]) -> io::Result<()> {
     let mut text = [0u8; TEXT_SPACE];
-    let written = print(&input[from..to], &mut text);
+    let written = print(session, &mut text);
     out.write_all(&text[..written])
 }
 
 // Every session; the last may be cut short.
 fn print_each<W: Write>(out: &mut W, input: &[u8]) -> io::Result<()> {
-    let length = input.len();
-    let mut at = 0;
-    while 4 <= length - at {
-        let from = at + 4;
-        let to = from + least(get4(input, at), length - from);
-        print_one(out, input, from, to)?;
-        at = to;
+    let mut rest = input;
+    while let Some((length, behind)) = rest.split_at_checked(4) {
+        let (session, others) = behind.split_at(number::get::<4>(length, 0).min(behind.len()));
+        print_one(out, session)?;
+        rest = others;
     }
     Ok(())
 }

@@ -1,2 +1,1 @@
-mod StagingCheckLaws
 mod CellPutLaws

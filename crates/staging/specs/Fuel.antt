@@ -1,24 +1,36 @@
 -- A row of cells by its fuel: how many of them are written, the spoilt one among them. What is armed as fuel and junk.
-use Rattle.std.specs.Prelude.{ℕ, zero, suc, ◌-◌, ◌<◌, Bool, true, false, List, [], ◌∷◌, ◌++◌, ◌≡◌, refl, ltb, eqb, length}
+use Rattle.std.specs.Prelude.{ℕ, zero, suc, ◌-◌, ◌<◌, Bool, true, false, List, [], ◌∷◌, ◌++◌, ◌≡◌, refl, ltb, eqb, length, Option, Some, None}
 use Rattle.std.proofs.Common.{ap, ◌∙◌, arith, ltb-true, ltb-false, eq-eqb, ne_eqb}
-use Rattle.model.specs.Cells.{Cell, torn}
+use Rattle.model.specs.Cells.{Cell, torn, write_cells, row}
 use Rattle.model.specs.Staging.{spoilt, cells_under, tears_in}
 use Rattle.model.specs.State as model
 use Rattle.model.specs.At88sc1608.{at88sc1608}
 use Rattle.laws.specs.CellLaws.{torn_none}
 use Rattle.staging.specs.declared.tear.Tear.{Tear}
-use Rattle.staging.specs.declared.tear.Tear.TheVariants as tear
+use Rattle.staging.specs.declared.cells.Fuel.{Fuel}
 
 -- the tear of the code as that of the model
-abbrev pub tear_of : Tear → model.Tear
-tear_of tear.Untorn = model.untorn
-tear_of (tear.After k junk) = model.tear_after k junk
+abbrev pub tear_of : Option Tear → model.Tear
+tear_of None = model.untorn
+tear_of (Some t) = model.tear_after t.cells t.junk
 
 -- the cells that the fuel lasts for
 abbrev pub fueled : (junk fuel : ℕ) → List Cell → List Cell
 fueled junk zero ws = []
 fueled junk (suc k) ws = torn (spoilt at88sc1608 junk) k ws
 
+-- what writing a row of cells leaves of the card and of the fuel
+pub record Writes (fuel : Fuel) (ws : List Cell) (card : List ℕ) (fuel' : Fuel) (card' : List ℕ) : Type 0 where
+  pub cells : card' ≡ write_cells (fueled fuel.junk fuel.cells ws) card
+  pub lasts : fuel'.cells ≡ fuel.cells - length ws
+  pub same_junk : fuel'.junk ≡ fuel.junk
+
+-- the same of values, at whatever places their numbers are given
+abbrev pub WritesRow : (post : ℕ → ℕ → Type 0) (fuel : Fuel) (vs card : List ℕ) (fuel' : Fuel) (card' : List ℕ) → Type 0
+WritesRow post fuel vs card fuel' card' =
+    (place : ℕ → ℕ) → ((k p : ℕ) → k < length vs → post k p → p ≡ place k) → Writes fuel (row place vs) card fuel' card'
+
+-- what is armed as fuel and junk
 abbrev pub fuel_of : model.Tear → ℕ
 fuel_of model.untorn = 256
 fuel_of (model.tear_after k junk) = suc k

@@ -21,15 +21,9 @@ pub fn staging_fits(bytes: &[u8], at: usize) -> bool
     requires { at + card_size ≤ length bytes.now }
     ensures { result ≡ staging_fits (drop at bytes.now) }
 {
-    let flag = bytes[at + FLAG];
-    if flag == IDLE {
-        return true;
+    match bytes[at + FLAG] {
+        IDLE => true,
+        READY => bytes[at + STAGED] < 8 && bytes[at + STAGED + 2] <= 8,
+        _ => false,
     }
-    if flag != READY {
-        return false;
-    }
-    if bytes[at + STAGED] < 8 {
-        return bytes[at + STAGED + 2] <= 8;
-    }
-    false
 }

@@ -1,2 +1,3 @@
 pub mod StateBytes
 pub mod StateLaws
+pub mod WrittenState

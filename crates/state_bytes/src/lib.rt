@@ -1,163 +1,114 @@
 // The state of a card as nine bytes.
 #![tactic(auto)]
 
-ghost use Rattle.std.specs.Prelude.{◌≡◌, length};
+ghost use Rattle.std.specs.Prelude.{◌≡◌, length, IfOk};
 ghost use Rattle.access.specs.VolatileState.{active_of, authentication_of};
 ghost use Rattle.staging.specs.Fuel.{tear_of};
 ghost use Rattle.busy.specs.TimedState as timed;
-ghost use Rattle.record.specs.RefusalNumber.{outcome_number};
 ghost use Rattle.state_bytes.specs.StateBytes.{active_flag, active_selector, authentication_byte, active_in_range, is_state, active_read, authentication_read};
-ghost use Rattle.state_bytes.specs.StateBytes.{off_byte, tear_flag, tear_cells, tear_junk, tear_in_range, tear_read, state_of, state_after};
+ghost use Rattle.state_bytes.specs.StateBytes.{tear_flag, tear_cells, tear_junk, tear_in_range, tear_read, state_of};
+ghost use Rattle.state_bytes.specs.WrittenState.{written};
 
-use access::volatile::{Active, Authentication, Volatile, Zone};
-use busy::{Power, State};
-use kinds::both;
-use record::refusal::Outcome;
+use access::volatile::{Authentication, Volatile, Zone};
+use busy::{Power, State, WRITE_TIME};
+use record::refusal::Refusal;
 use staging::tear::Tear;
 
-fn active_flag(active: Active) -> u8
+fn active_flag(active: Option<u8>) -> u8
     ensures { result ≡ active_flag (active_of active) }
 {
-    match active {
-        Active::None => 0,
-        Active::Selector(_) => 1,
-    }
+    u8::from(active.is_some())
 }
 
-fn active_selector(active: Active) -> u8
+fn active_selector(active: Option<u8>) -> u8
     ensures { result ≡ active_selector (active_of active) }
 {
-    match active {
-        Active::None => 0,
-        Active::Selector(k) => k,
-    }
+    active.unwrap_or(0)
 }
 
 fn authentication_byte(authentication: Authentication) -> u8
     ensures { result ≡ authentication_byte (authentication_of authentication) }
 {
-    match authentication {
-        Authentication::Idle => 0,
-        Authentication::Begun => 1,
-        Authentication::Granted => 2,
-    }
+    authentication as u8
 }
 
-fn off_byte(off: bool) -> u8
-    ensures { result ≡ off_byte off }
-{
-    if off {
-        return 1;
-    }
-    0
-}
-
-fn tear_flag(tear: Tear) -> u8
+fn tear_flag(tear: Option<Tear>) -> u8
     ensures { result ≡ tear_flag (tear_of tear) }
 {
-    match tear {
-        Tear::Untorn => 0,
-        Tear::After(_, _) => 1,
-    }
+    u8::from(tear.is_some())
 }
 
-fn tear_cells(tear: Tear) -> u8
+fn tear_cells(tear: Option<Tear>) -> u8
     ensures { result ≡ tear_cells (tear_of tear) }
 {
-    match tear {
-        Tear::Untorn => 0,
-        Tear::After(k, _) => k,
-    }
+    tear.map_or(0, |tear| tear.cells)
 }
 
-fn tear_junk(tear: Tear) -> u8
+fn tear_junk(tear: Option<Tear>) -> u8
     ensures { result ≡ tear_junk (tear_of tear) }
 {
-    match tear {
-        Tear::Untorn => 0,
-        Tear::After(_, junk) => junk,
-    }
+    tear.map_or(0, |tear| tear.junk)
 }
 
 // Whether a flag and a selector stand for an active password, or for none.
 fn active_in_range(flag: u8, selector: u8) -> bool
     ensures { result ≡ active_in_range flag selector }
 {
-    if flag == 0 {
-        return selector == 0;
+    match flag {
+        0 => selector == 0,
+        1 => selector < 16,
+        _ => false,
     }
-    if flag == 1 {
-        return selector < 16;
-    }
-    false
 }
 
 // Whether three bytes stand for an armed tear, or for none.
 fn tear_in_range(flag: u8, k: u8, junk: u8) -> bool
     ensures { result ≡ tear_in_range flag k junk }
 {
-    if flag == 0 {
-        return both(k == 0, junk == 0);
+    match flag {
+        0 => k == 0 && junk == 0,
+        _ => flag == 1,
     }
-    flag == 1
 }
 
 // Whether some bytes stand for a state.
+#[tactic(auto, unfolding(crate::specs::StateBytes::is_state))]
 fn is_state(bytes: &[u8]) -> bool
     ensures { result ≡ is_state bytes.now }
 {
-    if bytes.len() != 9 {
-        return false;
-    }
-    if 8 <= bytes[0] {
-        return false;
-    }
-    if 3 <= bytes[3] {
-        return false;
-    }
-    if 10 < bytes[4] {
-        return false;
-    }
-    if 2 <= bytes[5] {
-        return false;
-    }
-    if !tear_in_range(bytes[6], bytes[7], bytes[8]) {
-        return false;
-    }
-    active_in_range(bytes[1], bytes[2])
+    bytes.len() == 9
+        && bytes[0] < 8
+        && bytes[3] < 3
+        && bytes[4] <= WRITE_TIME
+        && bytes[5] < 2
+        && tear_in_range(bytes[6], bytes[7], bytes[8])
+        && active_in_range(bytes[1], bytes[2])
 }
 
-fn active_read(flag: u8, selector: u8) -> Active
+fn active_read(flag: u8, selector: u8) -> Option<u8>
     ensures { active_of result ≡ active_read flag selector }
 {
-    if flag == 0 {
-        return Active::None;
-    }
-    Active::Selector(selector)
+    (flag != 0).then_some(selector)
 }
 
 fn authentication_read(byte: u8) -> Authentication
     ensures { authentication_of result ≡ authentication_read byte }
 {
-    if byte == 0 {
-        return Authentication::Idle;
+    match byte {
+        0 => Authentication::Idle,
+        1 => Authentication::Begun,
+        _ => Authentication::Granted,
     }
-    if byte == 1 {
-        return Authentication::Begun;
-    }
-    Authentication::Granted
 }
 
-fn tear_read(flag: u8, k: u8, junk: u8) -> Tear
-    ensures { tear_of result ≡ tear_read flag k junk }
+fn tear_read(flag: u8, cells: u8, junk: u8) -> Option<Tear>
+    ensures { tear_of result ≡ tear_read flag cells junk }
 {
-    if flag == 0 {
-        return Tear::Untorn;
-    }
-    Tear::After(k, junk)
+    (flag != 0).then_some(Tear { cells, junk })
 }
 
 // The state that bytes stand for, or one out of range, which every call refuses.
+#[tactic(auto, using(crate::specs::StateLaws::state_long), unfolding(crate::specs::StateBytes::state_of))]
 pub fn read_state(bytes: &[u8]) -> State
     ensures { timed.state_of result ≡ state_of bytes.now }
 {
@@ -165,13 +116,13 @@ pub fn read_state(bytes: &[u8]) -> State
         return State {
             volatile: Volatile {
                 zone: Zone(255),
-                active: Active::None,
+                active: None,
                 authentication: Authentication::Idle,
             },
             busy: 0,
             power: Power {
                 off: false,
-                tear: Tear::Untorn,
+                tear: None,
             },
         };
     }
@@ -193,26 +144,24 @@ pub fn read_state(bytes: &[u8]) -> State
 }
 
 // helper: the state after an accepted call; a refused one leaves the bytes.
-pub fn write_state(bytes: &mut [u8], outcome: Outcome, state: State)
-    requires { outcome_number outcome ≡ 0 → length bytes.old ≡ 9 }
-    ensures { bytes.new ≡ state_after (outcome_number outcome) (timed.state_of state) bytes.old }
+pub fn write_state(bytes: &mut [u8], after: Result<State, Refusal>)
+    requires { IfOk after (λ _. length bytes.old ≡ 9) }
+    ensures { bytes.new ≡ written after bytes.old }
 {
-    if let Outcome::Refused(_) = outcome {
+    let Ok(state) = after else {
         return;
-    }
+    };
     let volatile = state.volatile;
-    let zone = volatile.zone.0;
-    let active = volatile.active;
-    let authentication = volatile.authentication;
-    bytes[0] = zone;
-    bytes[1] = active_flag(active);
-    bytes[2] = active_selector(active);
-    bytes[3] = authentication_byte(authentication);
-    bytes[4] = state.busy;
     let power = state.power;
-    let tear = power.tear;
-    bytes[5] = off_byte(power.off);
-    bytes[6] = tear_flag(tear);
-    bytes[7] = tear_cells(tear);
-    bytes[8] = tear_junk(tear);
+    bytes.copy_from_slice(&[
+        volatile.zone.0,
+        active_flag(volatile.active),
+        active_selector(volatile.active),
+        authentication_byte(volatile.authentication),
+        state.busy,
+        u8::from(power.off),
+        tear_flag(power.tear),
+        tear_cells(power.tear),
+        tear_junk(power.tear),
+    ]);
 }

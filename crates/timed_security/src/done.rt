@@ -6,7 +6,7 @@ ghost use Rattle.access.specs.VolatileState.{volatile_of};
 ghost use Rattle.busy.specs.TimedState.{state_of};
 
 use access::volatile::Volatile;
-use busy::{State, time_after, timed};
+use busy::{State, time_after};
 use security::report::{Report, reporting};
 
 // The state, and the tries left of the counter that the record used, 0 if none.
@@ -21,9 +21,8 @@ pub fn left(state: State, report: Report, busy: bool) -> Done
     ensures state { state_of result.state ≡ model.timed (state_of state) (volatile_of report.state) (cond busy write_time 0) }
     ensures tries { result.tries ≡ report.tries }
 {
-    let volatile = report.state;
     Done {
-        state: timed(state, volatile, time_after(busy)),
+        state: state.timed(report.state, time_after(busy)),
         tries: report.tries,
     }
 }

@@ -8,9 +8,7 @@ ghost use Rattle.busy.specs.TimedState.{state_of};
 ghost use Rattle.timed_security.specs.IssuedCommand.{Issued};
 
 use crate::done::{Done, left, settled};
-use access::volatile::{is_active, is_begun};
 use busy::State;
-use kinds::both;
 use security::authentication::{begin_authentication, verify_authentication};
 use security::counter::counter_at;
 use security::fuse::write_fuses;
@@ -20,13 +18,13 @@ use sizes::{ATTEMPTS, FUSES};
 pub mod done;
 
 // helper: write fuses, busy where a fuse is left for whom it is allowed.
+#[tactic(auto, unfolding(model::specs::Apply::apply))]
 pub fn blow_fuse(card: &mut [u8], state: State) -> Done
     requires { length card.old ≡ card_size }
     ensures { Issued card.old (state_of state) write_fuses card.new (state_of result.state) result.tries }
 {
     let volatile = state.volatile;
-    let active = volatile.active;
-    let busy = both(is_active(active, 7), card[FUSES] != 0);
+    let busy = volatile.is_active(7) && card[FUSES] != 0;
     write_fuses(card, volatile);
     settled(state, volatile, busy)
 }
@@ -63,8 +61,7 @@ pub fn judge(card: &mut [u8], state: State, verdict: bool, bytes: &[u8]) -> Done
         (state_of result.state) result.tries }
 {
     let volatile = state.volatile;
-    let authentication = volatile.authentication;
-    let busy = is_begun(authentication);
+    let busy = volatile.is_begun();
     left(
         state,
         verify_authentication(card, volatile, verdict, bytes),

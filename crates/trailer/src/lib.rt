@@ -5,15 +5,15 @@ ghost use Rattle.std.specs.Prelude.{◌≡◌, [], ◌∷◌, ◌++◌, ◌+◌,
 ghost use Rattle.std.proofs.lemmas.List.Edits.{sets};
 ghost use Rattle.model.specs.Numbers.{bytes_of};
 
-use record::number::{put2, put4};
+use record::number;
 
 // helper: a trailer put into a space from a place on.
 pub fn put(space: &mut [u8], at: usize, place: usize, count: usize, first: u8, last: u8)
     requires { at + 8 ≤ length space.old }
     ensures { space.new ≡ sets space.old at (bytes_of 4 place ++ (bytes_of 2 count ++ (first ∷ last ∷ []))) }
 {
-    put4(space, at, place);
-    put2(space, at + 4, count);
+    number::put::<4>(space, at, place);
+    number::put::<2>(space, at + 4, count);
     space[at + 6] = first;
     space[at + 7] = last;
 }

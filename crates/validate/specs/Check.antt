@@ -1,20 +1,19 @@
 -- What the check of a session's records tells: a refusal, or how long the entries of its log would be in full.
-use Rattle.std.specs.Prelude.{ℕ, zero, suc, ◌+◌, cond, not, List, eqb, length}
+use Rattle.std.specs.Prelude.{ℕ, zero, suc, ◌+◌, cond, not, List, Result, Ok, Err, eqb, length}
 use Rattle.model.specs.Reader.{records_end}
 use Rattle.model.specs.Refusal.{bytes_left}
 use Rattle.model.specs.Session.{start_of, count_of, frame, Read, stopped, all, read_from}
 use Rattle.properties.specs.SessionLaws.{full_total}
 use Rattle.record.specs.RefusalNumber.{refusal_number}
-use Rattle.validate.specs.declared.Checked.{Checked}
-use Rattle.validate.specs.declared.Checked.TheVariants as checked
+use Rattle.record.specs.declared.refusal.Refusal.{Refusal}
 
 pub data Sized : Type 0 where
   unfit : ℕ → Sized
   sized : ℕ → Sized
 
-abbrev pub checked_of : Checked → Sized
-checked_of (checked.Refused why) = unfit (refusal_number why)
-checked_of (checked.Entries n) = sized n
+abbrev pub checked_of : Result ℕ Refusal → Sized
+checked_of (Err why) = unfit (refusal_number why)
+checked_of (Ok n) = sized n
 
 -- of records that are to end at a place
 abbrev pub sized_of : ℕ → Read → Sized

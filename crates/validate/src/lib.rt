@@ -11,91 +11,67 @@ ghost use Rattle.validate.specs.Check.{checked_of, sized_of, check_of};
 use access::rights::is_fuse_byte;
 use header::header_length;
 use reader::{measure_at, records_end};
-use record::decoder::Measured;
-use record::number::{get2, get4};
-use record::refusal::{Outcome, Refusal};
+use record::number;
+use record::refusal::Refusal;
 use sizes::{CARD, FUSES, GREATEST_SESSION, LEAST_SESSION, MOST_RECORDS, TRAILER};
 use staging::staging_fits;
 
-// A refusal, or how long the entries of the log would be if every record were answered in full.
-#[derive(Clone, Copy)]
-pub enum Checked {
-    Refused(Refusal),
-    Entries(usize),
-}
-
 // What a session says beside its records: its length, its trailer, the start and the count of the records, the fuse byte, the
 // staging bytes.
-pub fn frame(session: &[u8]) -> Outcome
+pub fn frame(session: &[u8]) -> Result<(), Refusal>
     ensures { outcome_number result ≡ model.frame session.now }
 {
     let length = session.len();
-    if length < LEAST_SESSION {
-        return Outcome::Refused(Refusal::SessionLength);
+    if !(LEAST_SESSION..=GREATEST_SESSION).contains(&length) {
+        return Err(Refusal::SessionLength);
     }
-    if GREATEST_SESSION < length {
-        return Outcome::Refused(Refusal::SessionLength);
+    if !session.ends_with(b"SE") {
+        return Err(Refusal::SessionTrailer);
     }
-    if session[length - 2] != 83 {
-        return Outcome::Refused(Refusal::SessionTrailer);
+    let start = number::get::<4>(session, length - TRAILER);
+    if !(CARD..=length - TRAILER).contains(&start) {
+        return Err(Refusal::StartOutOfRange);
     }
-    if session[length - 1] != 69 {
-        return Outcome::Refused(Refusal::SessionTrailer);
-    }
-    let start = get4(session, length - TRAILER);
-    if start < CARD {
-        return Outcome::Refused(Refusal::StartOutOfRange);
-    }
-    if length - TRAILER < start {
-        return Outcome::Refused(Refusal::StartOutOfRange);
-    }
-    if MOST_RECORDS < get2(session, length - 4) {
-        return Outcome::Refused(Refusal::TooManyRecords);
+    if MOST_RECORDS < number::get::<2>(session, length - 4) {
+        return Err(Refusal::TooManyRecords);
     }
     if !is_fuse_byte(session[FUSES]) {
-        return Outcome::Refused(Refusal::FuseByte);
+        return Err(Refusal::FuseByte);
     }
     if !staging_fits(session, 0) {
-        return Outcome::Refused(Refusal::StagingBytes);
+        return Err(Refusal::StagingBytes);
     }
-    Outcome::Accepted
+    Ok(())
 }
 
-// helper: count records from start on, which are to end where the trailer begins.
-pub fn check_records(session: &[u8], start: usize, count: usize) -> Checked
+// helper: count records from start on, which are to end where the trailer begins; how long the entries of the log would be if every
+// record were answered in full.
+pub fn check_records(session: &[u8], start: usize, count: usize) -> Result<usize, Refusal>
     requires { count ≤ most_records }
     ensures { checked_of result ≡ sized_of (records_end (length session.now)) (model.read_from count session.now start) }
 {
     let mut at = start;
     let mut entries = 0;
-    let mut left = count;
-    while 0 < left {
-        match measure_at(session, at) {
-            Measured::Refused(why) => return Checked::Refused(why),
-            Measured::Whole(answer, length) => {
-                entries += header_length(session[at]) + answer as usize;
-                at += length;
-                left -= 1;
-            }
-        }
+    for _ in 0..count {
+        let lengths = measure_at(session, at)?;
+        entries += header_length(session[at]) + lengths.answer as usize;
+        at += lengths.record;
     }
     if at != records_end(session) {
-        return Checked::Refused(Refusal::BytesLeft);
+        return Err(Refusal::BytesLeft);
     }
-    Checked::Entries(entries)
+    Ok(entries)
 }
 
-// The whole session.
-pub fn check(session: &[u8]) -> Checked
+// The whole session: a refusal, or that length.
+pub fn check(session: &[u8]) -> Result<usize, Refusal>
     ensures { checked_of result ≡ check_of session.now }
 {
-    if let Outcome::Refused(why) = frame(session) {
-        return Checked::Refused(why);
-    }
+    frame(session)?;
     let length = session.len();
     check_records(
         session,
-        get4(session, length - TRAILER),
-        get2(session, length - 4),
+        number::get::<4>(session, length - TRAILER),
+        number::get::<2>(session, length - 4),
     )
 }

@@ -6,7 +6,6 @@ ghost use Rattle.std.specs.Prelude.{◌≡◌, ◌≤◌, length, take};
 
 use crate::count::count_of;
 use input::read_full;
-use record::refusal::Outcome;
 use refusal_text::{print_refusal, write_whole};
 use sizes::{CARD, GREATEST_SESSION, INPUT};
 use std::env::{Env, FillError};
@@ -20,15 +19,12 @@ mod count;
 // The file that an argument names, open for reading; or none, with the reason on standard error.
 fn open_named(rt: &HostRuntime, argument: usize) -> io::Result<Option<File>> {
     let mut path = [0u8; 4096];
-    let length = match rt.arg(argument, &mut path) {
-        Ok(length) => length,
-        Err(_) => 0,
-    };
-    let bytes = &path[..length];
-    let name = match str::from_utf8(bytes) {
+    let length = rt.arg(argument, &mut path).unwrap_or(0);
+    let path = &path[..length];
+    let name = match str::from_utf8(path) {
         Ok(name) => name,
         Err(why) => {
-            rt.stderr().write_all(bytes)?;
+            rt.stderr().write_all(path)?;
             eprintln!(rt; ": {why}")?;
             return Ok(None);
         }
@@ -43,13 +39,11 @@ fn open_named(rt: &HostRuntime, argument: usize) -> io::Result<Option<File>> {
 }
 
 // The title, at the front of a space that is longer than any session; one that has no room there counts as the whole space.
-fn read_title(rt: &impl Env, space: &mut [u8]) -> usize
-    ensures { (result ≤ length space.new) × (result ≡ length (take result space.new)) }
-{
+fn read_title<'a>(rt: &impl Env, space: &'a mut [u8]) -> &'a [u8] {
     match rt.arg(4, space) {
-        Ok(length) => length,
-        Err(FillError::TooLong) => space.len(),
-        Err(FillError::NotPresent) => 0,
+        Ok(length) => &space[..length],
+        Err(FillError::TooLong) => space,
+        Err(FillError::NotPresent) => &[],
     }
 }
 
@@ -61,37 +55,30 @@ fn write_from<R: Read>(
     count: usize,
 ) -> io::Result<()> {
     let mut card = [0u8; CARD + 1];
-    let card_length = read_full(card_file, &mut card)?;
+    let length = read_full(card_file, &mut card)?;
+    let card = &card[..length];
     let mut title = [0u8; INPUT];
-    let title_length = read_title(rt, &mut title);
+    let title = read_title(rt, &mut title);
     let mut records = [0u8; INPUT];
-    let records_length = read_full(records_file, &mut records)?;
+    let length = read_full(records_file, &mut records)?;
+    let records = &records[..length];
     let mut session = [0u8; GREATEST_SESSION];
-    let written = write_session(
-        &card[..card_length],
-        &title[..title_length],
-        &records[..records_length],
-        count,
-        &mut session,
-    );
-    let size = written.size;
-    let outcome = written.outcome;
-    match outcome {
-        Outcome::Refused(why) => print_refusal(&mut rt.stderr(), b"write-session", why),
-        Outcome::Accepted => write_whole(&mut rt.stdout(), &mut rt.stderr(), &session[..size]),
+    match write_session(card, title, records, count, &mut session) {
+        Err(why) => print_refusal(&mut rt.stderr(), b"write-session", why),
+        Ok(size) => write_whole(&mut rt.stdout(), &mut rt.stderr(), &session[..size]),
     }
 }
 
 fn main(rt: HostRuntime) -> io::Result<()> {
     let card_file = open_named(&rt, 1)?;
     let records_file = open_named(&rt, 2)?;
+    let (Some(mut card), Some(mut records)) = (card_file, records_file) else {
+        return Ok(());
+    };
     let mut digits = [0u8; 20];
-    match (card_file, records_file) {
-        (Some(mut card), Some(mut records)) => match rt.arg(3, &mut digits) {
-            Ok(length) => write_from(&rt, &mut card, &mut records, count_of(&digits[..length])),
-            Err(FillError::TooLong) => eprintln!(rt; "count: File name too long"),
-            Err(FillError::NotPresent) => eprintln!(rt; "count: Invalid argument"),
-        },
-        _ => Ok(()),
+    match rt.arg(3, &mut digits) {
+        Ok(length) => write_from(&rt, &mut card, &mut records, count_of(&digits[..length])),
+        Err(FillError::TooLong) => eprintln!(rt; "count: File name too long"),
+        Err(FillError::NotPresent) => eprintln!(rt; "count: Invalid argument"),
     }
 }

@@ -7,66 +7,51 @@ ghost use Rattle.record.specs.RefusalNumber.{outcome_number};
 ghost use Rattle.writer.specs.Writing.{written_of};
 
 use access::rights::is_fuse_byte;
-use record::decoder::{Measured, measure};
-use record::refusal::{Outcome, Refusal};
+use record::decoder::measure;
+use record::refusal::Refusal;
 use sizes::{CARD, FUSES, GREATEST_SESSION, LEAST_SESSION, MOST_RECORDS, MOST_TITLE, TRAILER};
-use slices::copy;
 use staging::staging_fits;
 use trailer::put;
 
-// What is given back beside the space for the session.
-#[derive(Clone, Copy)]
-pub struct Written {
-    pub outcome: Outcome,
-    pub size: usize,
-}
-
 // Records laid end to end: count of them, and nothing behind the last.
-pub fn records_refusal(records: &[u8], count: usize) -> Outcome
+pub fn records_refusal(records: &[u8], count: usize) -> Result<(), Refusal>
     ensures { outcome_number result ≡ records_refusal count records.now }
 {
-    let mut at = 0;
-    let mut left = count;
-    while 0 < left {
-        match measure(&records[at..]) {
-            Measured::Refused(why) => return Outcome::Refused(why),
-            Measured::Whole(_, length) => {
-                at += length;
-                left -= 1;
-            }
-        }
+    let mut rest = records;
+    for _ in 0..count {
+        let lengths = measure(rest)?;
+        rest = &rest[lengths.record..];
     }
-    if at != records.len() {
-        return Outcome::Refused(Refusal::BytesLeft);
+    if !rest.is_empty() {
+        return Err(Refusal::BytesLeft);
     }
-    Outcome::Accepted
+    Ok(())
 }
 
 // All that is refused but for want of space: 11, 1, 4, 5, 16, 15, the records in turn, 9.
-pub fn parts_refusal(card: &[u8], title: &[u8], records: &[u8], count: usize) -> Outcome
+// The four parts stay apart, as the C interface passes them: a struct for two functions is no plainer.
+#[tactic(auto, unfolding(model::specs::Writer::parts_refusal), using(laws::specs::WriterLaws::session_length_lem))]
+pub fn parts_refusal(card: &[u8], title: &[u8], records: &[u8], count: usize) -> Result<(), Refusal>
     ensures { outcome_number result ≡ parts_refusal (parts card.now title.now records.now count) }
 {
     if card.len() != CARD {
-        return Outcome::Refused(Refusal::CardLength);
+        return Err(Refusal::CardLength);
     }
     let room = GREATEST_SESSION - LEAST_SESSION;
-    if room < title.len() {
-        return Outcome::Refused(Refusal::SessionLength);
-    }
-    if room - title.len() < records.len() {
-        return Outcome::Refused(Refusal::SessionLength);
+    if room < title.len().saturating_add(records.len()) {
+        return Err(Refusal::SessionLength);
     }
     if MOST_RECORDS < count {
-        return Outcome::Refused(Refusal::TooManyRecords);
+        return Err(Refusal::TooManyRecords);
     }
     if !is_fuse_byte(card[FUSES]) {
-        return Outcome::Refused(Refusal::FuseByte);
+        return Err(Refusal::FuseByte);
     }
     if !staging_fits(card, 0) {
-        return Outcome::Refused(Refusal::StagingBytes);
+        return Err(Refusal::StagingBytes);
     }
     if MOST_TITLE < title.len() {
-        return Outcome::Refused(Refusal::TitleLength);
+        return Err(Refusal::TitleLength);
     }
     records_refusal(records, count)
 }
@@ -78,26 +63,20 @@ pub fn write_session(
     records: &[u8],
     count: usize,
     session: &mut [u8],
-) -> Written
+) -> Result<usize, Refusal>
     ensures { written_of result session.new
         ≡ write_session (parts card.now title.now records.now count) session.old }
 {
-    let outcome = parts_refusal(card, title, records, count);
-    if let Outcome::Refused(_) = outcome {
-        return Written { outcome, size: 0 };
-    }
+    parts_refusal(card, title, records, count)?;
     let start = CARD + title.len();
     let end = start + records.len();
     let size = end + TRAILER;
     if session.len() < size {
-        return Written {
-            outcome: Outcome::Refused(Refusal::NoSpace),
-            size: 0,
-        };
+        return Err(Refusal::NoSpace);
     }
-    copy(session, 0, card, 0, CARD);
-    copy(session, CARD, title, 0, title.len());
-    copy(session, start, records, 0, records.len());
+    session[..CARD].copy_from_slice(card);
+    session[CARD..start].copy_from_slice(title);
+    session[start..end].copy_from_slice(records);
     put(session, end, start, count, 83, 69);
-    Written { outcome, size }
+    Ok(size)
 }

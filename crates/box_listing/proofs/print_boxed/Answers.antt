@@ -6,5 +6,5 @@ use Rattle.box_listing.proofs.print_boxed.Goals as goal
 pub returns-then-box_refuses : goal.returns-then-box_refuses
 returns-then-box_refuses c = printed_limited _ _ _ c.box_refuses.ensures c.if-box_refuses.true (search rules) _ _ c.put_refusal.ensures
 
-pub returns : goal.returns
-returns c = printed_unlimited _ _ _ c.box_refuses.ensures c.if-box_refuses.false _ _ c.print.ensures
+pub returns-else-box_refuses : goal.returns-else-box_refuses
+returns-else-box_refuses c = printed_unlimited _ _ _ c.box_refuses.ensures c.if-box_refuses.false _ _ c.print.ensures

@@ -1,9 +1,6 @@
 -- From what was mended and its number.
-use native.Mathlib.Omega.{arith}
 use Rattle.exports.proofs.ExportLaws.{mending_fits}
 use Rattle.exports.proofs.at88sc1608_mend_by_search.Goals as goal
 
 pub mend_number-requires : goal.mend_number-requires
-mend_number-requires c =
-    let f = mending_fits _ _ c.mend_by_search-searched.ensures in
-    (omega (arith, f.0, f.1), omega (arith, f.0, f.1))
+mend_number-requires c = mending_fits _ _ c.in-Ok.ensures

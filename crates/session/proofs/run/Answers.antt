@@ -1,20 +1,22 @@
--- Refused, or logged, by what the check found.
-use mathlib.Core.Path.{sym, ap, ◌∙◌}
+-- The check's refusal, no room, or the log.
 use native.Mathlib.Omega.{arith}
-use Rattle.validate.specs.Check.{checked_of}
+use Rattle.std.proofs.lemmas.Result.{err_from_is_err_and}
 use Rattle.session.proofs.RunLaws.{run_refused, no_room, run_logged}
 use Rattle.session.proofs.run.Goals as goal
+use Rattle.session.proofs.run.Goals.{then-room-lt-LEAST_LOG-via-then-room-lt-LEAST_LOG, then-room-lt-LEAST_LOG-via-else-room-lt-LEAST_LOG+then-room-entries}
+
+pub returns-in_err-entries : goal.returns-in_err-entries
+returns-in_err-entries c =
+    let e = err_from_is_err_and c.from_residual.result c.from_residual.ensures.1 in
+    rw (e.1, e.2) (run_refused _ _ _ c.in_err-entries.ensures)
 
 pub returns-then-room-lt-LEAST_LOG : goal.returns-then-room-lt-LEAST_LOG
-returns-then-room-lt-LEAST_LOG c = no_room _ _ _ (sym (ap checked_of c.in-Entries.is) ∙ c.check.ensures) (omega arith)
+returns-then-room-lt-LEAST_LOG c =
+    no_room _ _ _ c.in_ok-entries.ensures (elim c.then-room-lt-LEAST_LOG.branch [
+      | then-room-lt-LEAST_LOG-via-then-room-lt-LEAST_LOG w ↦ omega arith
+      | then-room-lt-LEAST_LOG-via-else-room-lt-LEAST_LOG+then-room-entries w ↦ omega arith
+    ])
 
-pub returns-then-room-entries : goal.returns-then-room-entries
-returns-then-room-entries c = no_room _ _ _ (sym (ap checked_of c.in-Entries.is) ∙ c.check.ensures) (omega arith)
-
-pub returns-in-Refused : goal.returns-in-Refused
-returns-in-Refused c = run_refused _ _ _ (sym (ap checked_of c.in-Refused.is) ∙ c.check.ensures)
-
-pub returns-else-room-entries : goal.returns-else-room-entries
-returns-else-room-entries c =
-    run_logged _ _ _ (sym (ap checked_of c.in-Entries.is) ∙ c.check.ensures) (let h = c.if-room-entries.false in let l = c.if-room-lt-LEAST_LOG.false in omega arith) _ _
-    c.write_log.ensures
+pub returns : goal.returns
+returns c =
+    run_logged _ _ _ c.in_ok-entries.ensures (let h = c.if-room-entries.false in let l = c.if-room-lt-LEAST_LOG.false in omega arith) _ _ c.write_log.ensures

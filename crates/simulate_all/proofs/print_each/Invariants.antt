@@ -1,9 +1,6 @@
--- The place moves on by four bytes at least.
-use Prim.Native.Nat.{◌≤◌, ◌-◌}
+-- What is left is shorter by four bytes at least.
+use Rattle.std.proofs.Common.{length}
 use Rattle.simulate_all.proofs.print_each.Given as goal
 
-abbrev pub invariant-loop-at : goal.invariant-loop-at
-invariant-loop-at g l = l.at ≤ l.length
-
-abbrev pub decreases-loop-at : goal.decreases-loop-at
-decreases-loop-at g l = l.length - l.at
+abbrev pub decreases-loop-length : goal.decreases-loop-length
+decreases-loop-length g l = length l.rest

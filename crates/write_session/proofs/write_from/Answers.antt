@@ -5,7 +5,7 @@ use Rattle.laws.specs.WriterLaws.{writing_within}
 use Rattle.write_session.proofs.write_from.Goals as goal
 
 pub slice_bounds-session-end : goal.slice_bounds-session-end
-slice_bounds-session-end g c = writing_within _ _ _ c.write_session-written.ensures
+slice_bounds-session-end g c = writing_within _ _ _ c.in-Ok.ensures
 
 pub slice_bounds-write_whole-end : goal.slice_bounds-write_whole-end
-slice_bounds-write_whole-end g c = sym (length-take-le _ _ (writing_within _ _ _ c.write_session-written.ensures))
+slice_bounds-write_whole-end g c = sym (length-take-le _ _ (writing_within _ _ _ c.in-Ok.ensures))

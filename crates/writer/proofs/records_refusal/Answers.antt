@@ -1,17 +1,12 @@
-use mathlib.Core.Path.{sym, ap, ◌∙◌}
-use native.Mathlib.Omega.{arith}
-use Rattle.record.specs.DecodedRecord.{measured_of}
-use Rattle.record.specs.HeadLaws.{whole_of}
+-- Each record lies in the part that is left, and the rest of it decides.
 use Rattle.writer.proofs.PartsCheckLaws.{listed_within, listed_next}
 use Rattle.writer.proofs.records_refusal.Goals as goal
 
-pub overflow_add-at : goal.overflow_add-at
-overflow_add-at c =
-    let k = whole_of _ _ _ (sym (ap measured_of c.in-Whole.is) ∙ c.measure.ensures) in
-    let w = listed_within _ _ _ _ c.loop-left.invariant c.loop-left-test.true k.0 _ k.1 in
-    omega arith
+pub slice_bounds-rest-count : goal.slice_bounds-rest-count
+slice_bounds-rest-count c = listed_within _ _ _ _ c.loop.invariant c.loop-test.true _ _ c.in_ok-lengths.ensures
 
-pub loop-left-preserved : goal.loop-left-preserved
-loop-left-preserved c =
-    let k = whole_of _ _ _ (sym (ap measured_of c.in-Whole.is) ∙ c.measure.ensures) in
-    listed_next _ _ _ _ c.loop-left.invariant c.loop-left-test.true k.0 _ k.1
+pub slice_bounds-rest-start : goal.slice_bounds-rest-start
+slice_bounds-rest-start c = listed_within _ _ _ _ c.loop.invariant c.loop-test.true _ _ c.in_ok-lengths.ensures
+
+pub loop-preserved : goal.loop-preserved
+loop-preserved c = listed_next _ _ _ _ c.loop.invariant c.loop-test.true _ _ c.in_ok-lengths.ensures

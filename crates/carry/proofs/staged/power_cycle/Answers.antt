@@ -1,10 +1,7 @@
 -- Nothing to finish; or the staged values, and whether the fuel lasted.
-use mathlib.Core.Bool.{true, false}
-use mathlib.Core.Path.{refl, ◌∙◌}
-use borrow.Author.Tests.{eq-eqb, ne_eqb}
+use Rattle.std.proofs.Common.{true, false, ◌∙◌, eq-eqb, ne_eqb, rules}
 use Rattle.busy.specs.TimedState.{state_of}
 use Rattle.carry.proofs.StagedLaws.{cycle_idle, ready_zone, ready_length, cycle_laid}
-use borrow.Author.Rules.{rules}
 use Rattle.carry.proofs.staged.power_cycle.Goals as goal
 
 pub returns-then-card : goal.returns-then-card
@@ -12,23 +9,26 @@ returns-then-card c =
     cycle_idle c.args.card.now (state_of c.args.state) _ _ _ c.if-card.true c.quiet.ensures.state c.quiet.ensures.tries
     c.powered_up.ensures
 
+pub slice_bounds-values-end : goal.slice_bounds-values-end
+slice_bounds-values-end c = let l = ready_length c.args.card.now (state_of c.args.state) c.requires.1 c.requires.0 c.if-card.false in search rules
+
 pub slice_bounds-finish-end : goal.slice_bounds-finish-end
 slice_bounds-finish-end c = let l = ready_length c.args.card.now (state_of c.args.state) c.requires.1 c.requires.0 c.if-card.false in search rules
 
-pub finish-left-requires : goal.finish-left-requires
-finish-left-requires c =
+pub finish-requires : goal.finish-requires
+finish-requires c =
     let z = ready_zone c.args.card.now (state_of c.args.state) c.requires.1 c.requires.0 c.if-card.false in
     let l = ready_length c.args.card.now (state_of c.args.state) c.requires.1 c.requires.0 c.if-card.false in
     search rules
 
-pub returns-then-left-eq0 : goal.returns-then-left-eq0
-returns-then-left-eq0 c =
-    cycle_laid c.args.card.now (state_of c.args.state) c.requires.1 c.requires.0 c.if-card.false _ _ _ refl refl c.copy.ensures _ _ _ _
-    c.fuel.ensures c.junk.ensures c.finish-left.ensures.fuel c.finish-left.ensures.card true (eq-eqb _ _ c.if-left-eq0.true) _ _
-    (c.quiet-then-left-eq0.ensures.state ∙ c.power_lost.ensures) c.quiet-then-left-eq0.ensures.tries
+pub returns-then-fuel-eq0 : goal.returns-then-fuel-eq0
+returns-then-fuel-eq0 c =
+    cycle_laid c.args.card.now (state_of c.args.state) c.requires.1 c.requires.0 c.if-card.false _ c.copy_from_slice.ensures.after _ _ _
+    c.new-fuel.ensures.cells c.new-fuel.ensures.junk c.finish.ensures true (eq-eqb _ _ c.if-fuel-eq0.true) _ _
+    (c.quiet-then-fuel-eq0.ensures.state ∙ c.power_lost.ensures) c.quiet-then-fuel-eq0.ensures.tries
 
 pub returns : goal.returns
 returns c =
-    cycle_laid c.args.card.now (state_of c.args.state) c.requires.1 c.requires.0 c.if-card.false _ _ _ refl refl c.copy.ensures _ _ _ _
-    c.fuel.ensures c.junk.ensures c.finish-left.ensures.fuel c.finish-left.ensures.card false (ne_eqb _ _ c.if-left-eq0.false) _ _
+    cycle_laid c.args.card.now (state_of c.args.state) c.requires.1 c.requires.0 c.if-card.false _ c.copy_from_slice.ensures.after _ _ _
+    c.new-fuel.ensures.cells c.new-fuel.ensures.junk c.finish.ensures false (ne_eqb _ _ c.if-fuel-eq0.false) _ _
     (c.quiet-2.ensures.state ∙ c.power_on.ensures) c.quiet-2.ensures.tries

@@ -1,4 +1,4 @@
-use borrow.Author.Rules.{rules}
+use Rattle.std.proofs.Common.{rules}
 use Rattle.laws.specs.Loops.{stores_next, stores_done}
 use Rattle.configuration.proofs.page.store_allowed.Goals as goal
 

@@ -1,10 +1,6 @@
 -- What is known while entries are left is `Lining`.
-use Prim.Native.Nat.{◌-◌}
 use Rattle.listing.proofs.LineLaws.{Lining}
 use Rattle.listing.proofs.lines.put_entries.Given as goal
 
-abbrev pub invariant-loop-i : goal.invariant-loop-i
-invariant-loop-i l = Lining l.initial.text l.log l.count l.end l.i l.at l.to l.text
-
-abbrev pub decreases-loop-i : goal.decreases-loop-i
-decreases-loop-i l = l.count - l.i
+abbrev pub invariant-loop-number : goal.invariant-loop-number
+invariant-loop-number l = Lining l.initial.page l.log l.count l.end l.number l.at l.page

@@ -1,27 +1,16 @@
 -- The entries' lines, and those of the card.
 use borrow.Author.Rules.{rules}
-use native.Mathlib.Omega.{arith}
-use Rattle.listing.proofs.LineLaws.{log_trailed, entries_ready, card_within, log_put}
+use Rattle.text.proofs.PutLaws.{page_put}
+use Rattle.listing.proofs.LineLaws.{entries_ready, card_within, log_put}
 use Rattle.listing.proofs.lines.put_log.Goals as goal
 
-pub overflow_sub-length : goal.overflow_sub-length
-overflow_sub-length c = let t = (log_trailed _ c.requires).long in omega arith
-
-pub get4-start-requires : goal.get4-start-requires
-get4-start-requires c = let t = (log_trailed _ c.requires).long in search rules
-
-pub overflow_sub-length-2 : goal.overflow_sub-length-2
-overflow_sub-length-2 c = let t = (log_trailed _ c.requires).long in omega arith
-
-pub get2-requires : goal.get2-requires
-get2-requires c = let t = (log_trailed _ c.requires).long in search rules
-
-pub put_entries-next-requires : goal.put_entries-next-requires
-put_entries-next-requires c = entries_ready _ c.requires _ _ c.get2.ensures.0 c.get4-start.ensures.0
+pub put_entries-requires : goal.put_entries-requires
+put_entries-requires c = (entries_ready _ c.requires _ _ c.get.ensures.number c.get-start.ensures.number, c.new-page.ensures.at)
 
 pub slice_bounds-put_card-end : goal.slice_bounds-put_card-end
-slice_bounds-put_card-end c = card_within _ c.requires _ _ c.get2.ensures.0 c.get4-start.ensures.0
+slice_bounds-put_card-end c = card_within _ c.requires _ _ c.get.ensures.number c.get-start.ensures.number
 
 pub returns : goal.returns
 returns c =
-    log_put _ c.requires _ _ c.get2.ensures.0 c.get4-start.ensures.0 _ _ _ _ _ c.put_entries-next.ensures c.put_card.ensures
+    page_put c.new-page.ensures.bytes c.new-page.ensures.at
+    (log_put _ c.requires _ _ c.get.ensures.number c.get-start.ensures.number c.put_entries.ensures c.put_card.ensures) (search rules)

@@ -1,9 +1,5 @@
-use borrow.Author.Rules.{rules}
-use Rattle.laws.specs.Loops.{stores_next, stores_done}
+use Rattle.laws.specs.Loops.{stores_done}
 use Rattle.memory.proofs.page.store.Goals as goal
 
-pub loop-i-preserved : goal.loop-i-preserved
-loop-i-preserved c = search (rules, stores_next)
-
 pub returns : goal.returns
-returns c = search stores_done
+returns g c = λ rule given. stores_done rule _ c.args.bytes.now _ _ _ (c.loop-i.invariant rule given) c.loop-i-test.false

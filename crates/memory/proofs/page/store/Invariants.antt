@@ -1,14 +1,9 @@
 -- What is still to be stored gives what all of it gives.
-use Prim.Native.Nat.{◌+◌, ◌-◌, ◌%◌, ◌≤◌}
-use mathlib.Core.Path.{◌≡◌}
-use lib.ListN.{length, drop}
-use Rattle.memory.specs.ZonePage.{merged_of}
+use Rattle.std.specs.Prelude.{ℕ, ◌+◌, ◌%◌, ◌<◌, ◌≡◌, drop}
 use Rattle.model.specs.Lists.{stores}
 use Rattle.memory.proofs.page.store.Given as goal
 
 abbrev pub invariant-loop-i : goal.invariant-loop-i
-invariant-loop-i l = (l.i ≤ length l.bytes) × (l.at ≡ (l.low + l.i) % 16) × (length l.page ≡ 16)
-    × (stores (λ n. merged_of l.pgo) (λ k. (l.low + k) % 16) (drop l.i l.bytes) l.i l.page ≡ stores (λ n. merged_of l.pgo) (λ k. (l.low + k) % 16) l.bytes 0 l.initial.page)
-
-abbrev pub decreases-loop-i : goal.decreases-loop-i
-decreases-loop-i l = length l.bytes - l.i
+invariant-loop-i g l =
+    (rule : ℕ → ℕ → ℕ → ℕ) → ((i old new r : ℕ) → i < 16 → old < 256 → new < 256 → goal.F-post g l.rule i old new r → r ≡ rule i old new)
+    → stores rule (λ k. (l.low + k) % 16) (drop l.i l.bytes) l.i l.page ≡ stores rule (λ k. (l.low + k) % 16) l.bytes 0 l.initial.page

@@ -1,19 +1,10 @@
--- What is known while records are read from a start is `Reading`, and while starts are tried `Trying`. The outer loop is left by its test, or from
--- within the inner one.
-use Prim.Native.Nat.{◌-◌}
-use Rattle.model.specs.Sizes.{most_records}
-use Rattle.mender.proofs.SearchLaws.{Reading}
-use Rattle.mender.proofs.SearchLaws.{Trying}
+-- What is known while records are read from a start is `Reading`, and while starts are tried `Trying`; nothing is found till both loops are left.
+use Rattle.std.proofs.Common.{◌≡◌, ◌-◌, None}
+use Rattle.mender.proofs.SearchLaws.{Reading, Trying}
 use Rattle.mender.proofs.search.smallest_start.Given as goal
 
 abbrev pub invariant-loop-count : goal.invariant-loop-count
-invariant-loop-count l = Reading l.session l.start l.count l.at
-
-abbrev pub decreases-loop-count : goal.decreases-loop-count
-decreases-loop-count l = most_records - l.count
+invariant-loop-count l = (l.found ≡ None) × Reading l.session l.start (l.count - 1) l.at
 
 abbrev pub invariant-starts : goal.invariant-starts
-invariant-starts l = Trying l.session l.start
-
-abbrev pub decreases-starts : goal.decreases-starts
-decreases-starts l = l.end - l.start
+invariant-starts l = (l.found ≡ None) × Trying l.session l.start

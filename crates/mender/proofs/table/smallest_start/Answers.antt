@@ -1,9 +1,16 @@
-use borrow.Author.Rules.{rules}
-use Rattle.mender.proofs.TableLaws.{filled_start, filled_next}
+-- By the laws of `Filled`.
+use Rattle.std.proofs.Common.{rules}
+use Rattle.mender.proofs.TableLaws.{filled_start, filled_none, filled_some, filled_done}
 use Rattle.mender.proofs.table.smallest_start.Goals as goal
 
-pub loop-at-init : goal.loop-at-init
-loop-at-init c = filled_start _ _ _ c.records_end-end.ensures c.requires (search rules)
+pub loop-start-init : goal.loop-start-init
+loop-start-init c = filled_start _ _ _ c.records_end-end.ensures (search rules)
 
-pub loop-at-preserved : goal.loop-at-preserved
-loop-at-preserved c = filled_next _ _ _ _ c.loop-at.invariant _ _ c.loop-at-test.true c.count_at-count.ensures c.sooner-found.ensures
+pub loop-start-preserved-in-Some : goal.loop-start-preserved-in-Some
+loop-start-preserved-in-Some c = filled_some _ _ _ _ c.loop-start.invariant _ c.loop-start-test.true c.count_at-count.ensures _ c.in-Some.is
+
+pub loop-start-preserved : goal.loop-start-preserved
+loop-start-preserved c = filled_none _ _ _ _ c.loop-start.invariant _ c.loop-start-test.true c.count_at-count.ensures c.in_default.is
+
+pub returns : goal.returns
+returns c = filled_done _ _ _ _ c.loop-start.invariant c.loop-start-test.false

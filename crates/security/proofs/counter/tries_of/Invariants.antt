@@ -1,15 +1,9 @@
 -- The numbers so far stand at the front; the last one fills the space.
-use Prim.Native.Nat.{◌-◌, ◌≤◌}
-use mathlib.Core.List.{◌++◌}
-use mathlib.Core.Path.{◌≡◌}
-use lib.ListN.{drop}
+use Rattle.std.proofs.Common.{◌≡◌, ◌++◌, drop}
 use Rattle.model.specs.Lists.{at, tab}
 use Rattle.model.specs.Bits.{tries_left}
 use Rattle.model.specs.At88sc1608.{counter_at}
 use Rattle.security.proofs.counter.tries_of.Given as goal
 
 abbrev pub invariant-loop-k : goal.invariant-loop-k
-invariant-loop-k l = (l.k ≤ 16) × (l.tries ≡ tab (λ j. tries_left (at l.card (counter_at j))) l.k ++ drop l.k l.initial.tries)
-
-abbrev pub decreases-loop-k : goal.decreases-loop-k
-decreases-loop-k l = 16 - l.k
+invariant-loop-k l = l.tries ≡ tab (λ j. tries_left (at l.card (counter_at j))) l.k ++ drop l.k l.initial.tries

@@ -1,10 +1,7 @@
--- What is known while records are left is `Going`.
+-- What is known when some of the records are done is `Going`.
 use Rattle.busy.specs.TimedState.{state_of}
 use Rattle.session.proofs.SessionWriteLaws.{Going}
 use Rattle.session.proofs.write.run_records.Given as goal
 
-abbrev pub invariant-loop-left : goal.invariant-loop-left
-invariant-loop-left l = Going l.session l.start l.count l.initial.card l.initial.log l.at l.place l.left l.card (state_of l.state) l.log
-
-abbrev pub decreases-loop-left : goal.decreases-loop-left
-decreases-loop-left l = l.left
+abbrev pub invariant-loop : goal.invariant-loop
+invariant-loop l = Going l.session l.start l.count l.initial.card l.initial.log l.at l.place l.counter l.card (state_of l.state) l.log

@@ -1,6 +1,7 @@
 -- The header of an ignored record; or a header, then the response, each in its place.
 use mathlib.Core.Path.{refl}
 use native.Mathlib.Omega.{arith}
+use Rattle.laws.specs.KindLaws.{within_known}
 use Rattle.session.proofs.SessionWriteLaws.{entry_known, header_room, response_room, entry_ignored, entry_ready, entry_written}
 use borrow.Author.Rules.{rules}
 use Rattle.session.proofs.write.write_entry.Goals as goal
@@ -16,22 +17,21 @@ returns-then-is_ignored c =
     entry_ignored _ _ _ _ c.requires.1 _ c.requires.0 _ _ c.is_halted-halted.ensures c.is_ignored.ensures c.if-is_ignored.true _ _
     c.put_header-end.ensures.0 c.put_header-end.ensures.1
 
-pub answer_length-response-requires : goal.answer_length-response-requires
-answer_length-response-requires c = entry_known _ _ _ _ c.requires.1 _ c.requires.0
+pub kind-kind-requires : goal.kind-kind-requires
+kind-kind-requires c = within_known _ (entry_known _ _ _ _ c.requires.1 _ c.requires.0)
 
 pub put_header-from-requires : goal.put_header-from-requires
 put_header-from-requires c = header_room _ _ _ _ c.requires.1 _ c.requires.0
 
-pub record_length-end-requires : goal.record_length-end-requires
-record_length-end-requires c = entry_known _ _ _ _ c.requires.1 _ c.requires.0
-
 pub slice_bounds-carry_out-count : goal.slice_bounds-carry_out-count
 slice_bounds-carry_out-count c =
-    let w = response_room _ _ _ _ c.requires.1 _ c.requires.0 _ _ c.answer_length-response.ensures c.put_header-from.ensures.1 in search rules
+    let w = response_room _ _ _ _ c.requires.1 _ c.requires.0 _ _ (rw c.kind-kind.ensures at c.answer_length-response.ensures)
+    c.put_header-from.ensures.1 in search rules
 
 pub slice_bounds-carry_out-start : goal.slice_bounds-carry_out-start
 slice_bounds-carry_out-start c =
-    let w = response_room _ _ _ _ c.requires.1 _ c.requires.0 _ _ c.answer_length-response.ensures c.put_header-from.ensures.1 in search rules
+    let w = response_room _ _ _ _ c.requires.1 _ c.requires.0 _ _ (rw c.kind-kind.ensures at c.answer_length-response.ensures)
+    c.put_header-from.ensures.1 in search rules
 
 pub carry_out-done-requires : goal.carry_out-done-requires
 carry_out-done-requires c =
@@ -39,7 +39,8 @@ carry_out-done-requires c =
       k.0,
       k.1,
       entry_ready _ _ _ _ c.requires.1 _ c.requires.0 _ _ c.is_halted-halted.ensures c.is_ignored.ensures c.if-is_ignored.false _ _ _ _
-          c.answer_length-response.ensures c.put_header-from.ensures.0 c.put_header-from.ensures.1 c.record_length-end.ensures _ _ refl refl,
+          (rw c.kind-kind.ensures at c.answer_length-response.ensures) c.put_header-from.ensures.0 c.put_header-from.ensures.1 (rw
+          c.kind-kind.ensures at c.record_length-end.ensures) _ _ refl refl,
     )
 
 pub overflow_add-result : goal.overflow_add-result
@@ -47,11 +48,13 @@ overflow_add-result c =
     let w = response_room _ _ _ _
     c.requires.1 _
     c.requires.0 _ _
-    c.answer_length-response.ensures
+    (rw c.kind-kind.ensures at c.answer_length-response.ensures)
     c.put_header-from.ensures.1 in
     omega arith
 
 pub returns : goal.returns
 returns c =
-    entry_written _ _ _ _ c.requires.1 _ c.requires.0 _ _ c.is_halted-halted.ensures c.is_ignored.ensures c.if-is_ignored.false _ _ _ _ c.answer_length-response.ensures
-    c.put_header-from.ensures.0 c.put_header-from.ensures.1 c.record_length-end.ensures _ _ refl refl _ _ _ _ c.carry_out-done.ensures
+    entry_written _ _ _ _ c.requires.1 _ c.requires.0 _ _ c.is_halted-halted.ensures c.is_ignored.ensures c.if-is_ignored.false _ _ _ _ (rw
+    c.kind-kind.ensures at c.answer_length-response.ensures)
+    c.put_header-from.ensures.0 c.put_header-from.ensures.1 (rw c.kind-kind.ensures at c.record_length-end.ensures) _ _ refl refl _ _ _ _
+    c.carry_out-done.ensures

@@ -9,13 +9,13 @@ use Rattle.session_log.proofs.write.put_header.Goals as goal
 pub returns-then-names_zone : goal.returns-then-names_zone
 returns-then-names_zone c =
     let named = sym c.names_zone.ensures ∙ c.if-names_zone.true in (
-      zone_put c.args.log.now _ c.args.at c.args.kind c.args.response c.args.zone c.put2.ensures named,
+      zone_put c.args.log.now _ c.args.at c.args.kind c.args.response c.args.zone c.put.ensures named,
       ap (λ n. c.args.at + n) (header_four zoned _ _ c.names_zone.ensures c.if-names_zone.true),
     )
 
 pub returns : goal.returns
 returns c =
     let named = sym c.names_zone.ensures ∙ c.if-names_zone.false in (
-      header_put c.args.log.now _ c.args.at c.args.kind c.args.response c.args.zone c.put2.ensures named,
+      header_put c.args.log.now _ c.args.at c.args.kind c.args.response c.args.zone c.put.ensures named,
       ap (λ n. c.args.at + n) (header_three zoned _ _ c.names_zone.ensures c.if-names_zone.false),
     )

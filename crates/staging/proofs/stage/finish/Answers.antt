@@ -1,12 +1,10 @@
 -- The page, then the flag.
-use mathlib.Core.Path.{refl}
-use borrow.Author.Rules.{rules}
-use Rattle.staging.proofs.CellPutLaws.{finished}
+use Rattle.std.proofs.Common.{◌≡◌, ◌+◌, ◌*◌, ◌/◌, ◌%◌, arith, rules}
+use Rattle.model.specs.At88sc1608.{zone_cell}
+use Rattle.staging.proofs.CellPutLaws.{behind}
 use Rattle.staging.proofs.stage.finish.Goals as goal
 
 pub returns : goal.returns
-returns c = record {
-  card = finished _ c.args.address _ _ _ c.args.values.now _ _ _ _ refl c.requires.1 (search rules) c.put_page-left.ensures.card
-      c.put_page-left.ensures.fuel c.put_cell.ensures.card;
-  fuel = search rules;
-}
+returns c =
+    behind _ _ _ _ _ _ _ _ (c.put_row.ensures (zone_cell c.args.zone.0 c.args.address) (λ k p h q.
+    let e : p ≡ c.args.zone.0 * 256 + c.args.address / 16 * 16 + (c.args.address % 16 + k) % 16 = search rules in omega arith)) c.put.ensures
