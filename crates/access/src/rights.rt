@@ -3,8 +3,8 @@ ghost use Rattle.std.specs.Prelude.{◌≡◌, ◌||◌, slice_index_or};
 ghost use Rattle.model.specs.Access.{zone_reads, zone_writes, zone_readable, zone_writable, area_of, stage_of};
 ghost use Rattle.model.specs.Access as model;
 ghost use Rattle.model.specs.Single.{is_fuse_byte};
-ghost use Rattle.access.specs.Column.{column_of, allows_of};
-ghost use Rattle.access.specs.Permissions.{code_of, codes_of, write_of};
+ghost use Rattle.access.specs.Column.{column_of, column_allows, allows_of};
+ghost use Rattle.access.specs.Permissions.{code_of, codes_of, write_of, SamePermission};
 ghost use Rattle.access.specs.VolatileState.{active_of, volatile_of};
 ghost use Rattle.access.specs.declared.rights.Permission.TheVariants.{Free};
 
@@ -13,7 +13,7 @@ use crate::volatile::{PwSet, Volatile};
 use Permission::{Free, No, Sc, Wp};
 
 // Who may reach a byte of the configuration: everyone, who gave write password 7, who gave the write password of the byte's set, no one.
-#[derive(Clone, Copy)]
+#[derive(Clone, Copy, Debug, PartialEq, Eq)]
 pub enum Permission {
     Free,
     Sc,
@@ -42,14 +42,14 @@ const PERMISSIONS: [[[Permission; 7]; 2]; 4] = [
 ];
 
 // What is done to a byte: the place of its permission in a pair of the table.
-#[derive(Clone, Copy)]
+#[derive(Clone, Copy, Debug, PartialEq, Eq)]
 pub enum Access {
     Read,
     Write,
 }
 
 // The permissions of the seven areas at a fuse byte's stage, for reading or for writing, and the password that is active.
-#[derive(Clone, Copy)]
+#[derive(Clone, Copy, Debug, PartialEq, Eq)]
 pub struct Column {
     pub permissions: [Permission; 7],
     pub active: Option<u8>,
@@ -117,6 +117,21 @@ fn set_of(address: u8) -> PwSet
     PwSet(address.saturating_sub(64) / 8 % 8)
 }
 
+impl Permission {
+    // The permission that a code stands for; one that is none of the four lets no one through.
+    #[tactic(auto, unfolding(model::specs::Access::permits))]
+    pub fn of_code(code: u8) -> Permission
+        ensures { SamePermission code (code_of result) }
+    {
+        match code {
+            0 => Free,
+            1 => Sc,
+            2 => Wp,
+            _ => No,
+        }
+    }
+}
+
 impl Column {
     // A command makes its column once, since each use of the table copies it.
     pub fn new(access: Access, fuses: u8, active: Option<u8>) -> Column
@@ -125,6 +140,24 @@ impl Column {
     {
         Column {
             permissions: PERMISSIONS[stage(fuses) as usize][access as usize],
+            active,
+        }
+    }
+
+    // A column of codes, of whatever numbers.
+    pub fn of_codes(codes: &[u8; 7], active: Option<u8>) -> Column
+        ensures { (a : _) → allows_of result a ≡ column_allows codes.now a (active_of active) }
+    {
+        Column {
+            permissions: [
+                Permission::of_code(codes[0]),
+                Permission::of_code(codes[1]),
+                Permission::of_code(codes[2]),
+                Permission::of_code(codes[3]),
+                Permission::of_code(codes[4]),
+                Permission::of_code(codes[5]),
+                Permission::of_code(codes[6]),
+            ],
             active,
         }
     }
@@ -157,6 +190,13 @@ impl Column {
             No => false,
         }
     }
+}
+
+// Whether a configuration address may be reached, by the codes of a column.
+pub fn configuration_allows(codes: &[u8; 7], address: u8, active: Option<u8>) -> bool
+    ensures { result ≡ column_allows codes.now address (active_of active) }
+{
+    Column::of_codes(codes, active).allows(address)
 }
 
 // Whether a fuse byte has one of its four values.

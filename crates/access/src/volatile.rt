@@ -79,18 +79,37 @@ impl Volatile {
     pub fn is_active(self, selector: u8) -> bool
         ensures { result ≡ is_active (active_of self.active) selector }
     {
-        self.active == Some(selector)
+        is_active(self.active, selector)
     }
 
     pub fn is_begun(self) -> bool
         ensures { result ≡ is_begun (authentication_of self.authentication) }
     {
-        self.authentication == Authentication::Begun
+        is_begun(self.authentication)
     }
 
     pub fn is_granted(self) -> bool
         ensures { result ≡ is_granted (authentication_of self.authentication) }
     {
-        self.authentication == Authentication::Granted
+        is_granted(self.authentication)
     }
+}
+
+// The same of the part of a state that decides.
+pub fn is_active(active: Option<u8>, selector: u8) -> bool
+    ensures { result ≡ is_active (active_of active) selector }
+{
+    active == Some(selector)
+}
+
+pub fn is_begun(authentication: Authentication) -> bool
+    ensures { result ≡ is_begun (authentication_of authentication) }
+{
+    authentication == Authentication::Begun
+}
+
+pub fn is_granted(authentication: Authentication) -> bool
+    ensures { result ≡ is_granted (authentication_of authentication) }
+{
+    authentication == Authentication::Granted
 }

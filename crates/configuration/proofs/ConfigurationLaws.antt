@@ -18,7 +18,7 @@ use Rattle.access.specs.declared.rights.Column.{Column}
 use Rattle.access.specs.Column.{column_of, allows_of, column_allows_lem}
 use Rattle.access.specs.Permissions.{codes_of}
 use Rattle.access.specs.VolatileState.{active_of}
-use Rattle.configuration.specs.ConfigurationPage.{allowed_of}
+use Rattle.configuration.specs.ConfigurationPage.{allowed_in}
 
 -- what fills its space
 pub tab_full : (f : ℕ → ℕ) (i n : ℕ) (d l : List ℕ) → l ≡ tab f i ++ drop i d → length d ≡ n → i ≤ n → n ≤ i → l ≡ tab f n
@@ -35,18 +35,18 @@ module _ (c : List ℕ) (s : Volatile) (a : ℕ) (column : Column) (active : act
       → base ≡ configuration_at + first
       → a < 128
       → length c ≡ card_size
-      → ys ≡ stores (allowed_of column first) (λ k. (a % 16 + k) % 16) xs 0 (take (base + 16 - base) (drop base c))
+      → ys ≡ stores (allowed_in column first) (λ k. (a % 16 + k) % 16) xs 0 (take (base + 16 - base) (drop base c))
       → take base c ++ (ys ++ drop (base + 16 - base) (drop base c)) ≡ (apply c s (write_configuration a xs)).card
   unfolding any.apply
   write_configuration_lem xs ys first base q f b l n y =
       let w : ℕ = base + 16 - base in
       ap (λ (zs : List ℕ). take base c ++ (zs ++ drop w (drop base c))) y
-      ∙ stores_part (allowed_of column first) (λ i. allowed_of column first (i - base)) (λ k. (a % 16 + k) % 16) base w (λ k. omega arith)
+      ∙ stores_part (allowed_in column first) (λ i. allowed_in column first (i - base)) (λ k. (a % 16 + k) % 16) base w (λ k. omega arith)
       (λ k old new. let e : base + (a % 16 + k) % 16 - base ≡ (a % 16 + k) % 16 = omega arith in rw e) xs 0 c (omega arith)
       ∙ sym (stores_cong _ _ _ _ (λ k. omega arith) (λ k old new. cell_kept k old new) xs 0 c)
     where
       cell_kept : (k old new : ℕ) → kept at88sc1608 (rules at88sc1608 c) s (configuration_cell a k) old new
-          ≡ allowed_of column first (configuration_cell a k - base) old new
+          ≡ allowed_in column first (configuration_cell a k - base) old new
       cell_kept k old new =
           let i : ℕ = configuration_cell a k in
           let p : i ≡ base + (a + k) % 16 = omega arith in

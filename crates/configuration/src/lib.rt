@@ -55,5 +55,5 @@ pub fn write_configuration(card: &mut [u8], state: Volatile, address: u8, bytes:
     let first = address / 16 * 16;
     let base = CONFIGURATION + first as usize;
     let low = address as usize % 16;
-    page::store_allowed(&mut card[base..base + 16], first, low, bytes, &column);
+    page::store_column(&mut card[base..base + 16], first, low, bytes, &column);
 }

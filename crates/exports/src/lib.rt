@@ -12,7 +12,7 @@ use box_run::box_run;
 use command::command;
 use mender::mend;
 use mender::search::mend_by_search;
-use results::{answer_number, command_number, mend_number, result_number};
+use results::{mended_number, place_number, reply_number, run_number};
 use session::run;
 use session_log::find::fetch;
 use state_bytes::{read_state, write_state};
@@ -23,7 +23,7 @@ use writer::write_session;
 pub extern "C" fn at88sc1608_run(session: &[u8], log: &mut [u8]) -> u64
     ensures { run_call result log.new ≡ exported_run session.now log.old }
 {
-    result_number(run(session, log))
+    run_number(run(session, log))
 }
 
 // The same in the box.
@@ -31,7 +31,7 @@ pub extern "C" fn at88sc1608_run(session: &[u8], log: &mut [u8]) -> u64
 pub extern "C" fn at88sc1608_box_run(session: &[u8], log: &mut [u8]) -> u64
     ensures { run_call result log.new ≡ exported_box_run session.now log.old }
 {
-    result_number(box_run(session, log))
+    run_number(box_run(session, log))
 }
 
 // One command: the refusal's number, or 0, 2^8 times the response's length, 2^24 times the tries left and 2^32 times the kind that is
@@ -50,8 +50,8 @@ pub extern "C" fn at88sc1608_command(
     let replied = command(card, before, record, response);
     write_state(state, replied.map(|reply| reply.state));
     match replied {
-        Ok(reply) => command_number(Ok(reply.size), reply.tries, reply.kind),
-        Err(why) => command_number(Err(why), 0, 0),
+        Ok(reply) => reply_number(Ok(reply.size), reply.tries, reply.kind),
+        Err(why) => reply_number(Err(why), 0, 0),
     }
 }
 
@@ -63,8 +63,8 @@ pub extern "C" fn at88sc1608_answer(log: &[u8], number: u64) -> u64
 {
     let fetched = fetch(log, number as usize);
     match fetched.found {
-        Ok(place) => answer_number(Ok((place.from, place.length)), fetched.headers),
-        Err(why) => answer_number(Err(why), fetched.headers),
+        Ok(place) => place_number(Ok((place.from, place.length)), fetched.headers),
+        Err(why) => place_number(Err(why), fetched.headers),
     }
 }
 
@@ -80,7 +80,7 @@ pub extern "C" fn at88sc1608_write_session(
     ensures { run_call result session.new
         ≡ exported_writing (parts card.now title.now records.now count) session.old }
 {
-    result_number(write_session(card, title, records, count as usize, session))
+    run_number(write_session(card, title, records, count as usize, session))
 }
 
 // A session mended in place: the refusal's number, or 0, 2^8 times the count of its records and 2^32 times where they start.
@@ -89,8 +89,8 @@ pub extern "C" fn at88sc1608_mend(session: &mut [u8]) -> u64
     ensures { run_call result session.new ≡ exported_mending session.old }
 {
     match mend(session) {
-        Ok(mended) => mend_number(Ok((mended.count, mended.start))),
-        Err(why) => mend_number(Err(why)),
+        Ok(mended) => mended_number(Ok((mended.count, mended.start))),
+        Err(why) => mended_number(Err(why)),
     }
 }
 
@@ -100,7 +100,7 @@ pub extern "C" fn at88sc1608_mend_by_search(session: &mut [u8]) -> u64
     ensures { run_call result session.new ≡ exported_mending session.old }
 {
     match mend_by_search(session) {
-        Ok(searched) => mend_number(Ok((searched.count, searched.start))),
-        Err(why) => mend_number(Err(why)),
+        Ok(searched) => mended_number(Ok((searched.count, searched.start))),
+        Err(why) => mended_number(Err(why)),
     }
 }

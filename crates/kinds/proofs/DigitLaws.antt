@@ -1,11 +1,14 @@
 -- The columns of digits: what the code takes from a digit, or from the count, is what the model says of the kind.
 use Prim.Native.Nat.{ℕ, ◌+◌, ◌*◌, ◌/◌, ◌%◌, ◌^◌, ◌≤◌, ◌<◌}
-use mathlib.Core.Bool.{Bool, true, false, not, ◌&&◌, ◌||◌}
+use mathlib.Core.Bool.{Bool, true, false, cond, not, ◌&&◌, ◌||◌}
+use mathlib.Core.List.{[]}
 use mathlib.Core.Path.{◌≡◌, refl, sym}
 use native.Mathlib.Omega.{arith}
 use borrow.Author.Tests.{eqb-true, eq-eqb, le-leb, leb-true}
 use lib.Dec.{leb, eqb}
-use Rattle.model.specs.Record.{kinds, fixed_fields, in_range, data_length}
+use Rattle.model.specs.At88sc1608.{at88sc1608}
+use Rattle.laws.specs.BusyLaws.{full_answer}
+use Rattle.model.specs.Record.{kinds, fixed_fields, in_range, data_length, made, length_fits}
 use Rattle.laws.specs.BoolLaws.{and_left, and_right}
 use Rattle.laws.specs.KindLaws.{each_kind, within_known}
 
@@ -33,6 +36,22 @@ module _ (n : ℕ) (short : n < 256) where
       (none_left 1) (none_left 1) (none_left 2) (none_left 3) (all_left 3) (none_left 3) (all_left 3) (none_left 1)
       (none_left 1) (none_left 5) (none_left 1) (none_left 10) (none_left 2) (none_left 1) (all_left 3) (none_left 3)
       k (within_known k h)
+
+pub answer_digit : (n k : ℕ) → (1 ≤ k) × (k ≤ 16)
+    → cond (eqb k 6) n (cond (eqb k 4) (cond (eqb n 0) 256 n) (digit_of 0x100000100000400 k)) ≡ full_answer at88sc1608 (made k 0 n [])
+unfolding kinds made
+answer_digit n k h =
+    each_kind (λ k. cond (eqb k 6) n (cond (eqb k 4) (cond (eqb n 0) 256 n) (digit_of 0x100000100000400 k)) ≡ full_answer at88sc1608 (made k 0 n []))
+    refl refl refl refl refl refl refl refl refl refl refl refl refl refl refl refl k (within_known k h)
+
+-- the lengths of answers in a log
+pub fits_digit : (n k : ℕ) → (1 ≤ k) × (k ≤ 16)
+    → cond (eqb k 4) (leb 1 n && leb n 256) (cond (eqb k 6) (leb 1 n && leb n 128) (eqb n (digit_of 0x100000100000400 k))) ≡ length_fits k n
+unfolding kinds length_fits
+fits_digit n k h =
+    each_kind
+    (λ k. cond (eqb k 4) (leb 1 n && leb n 256) (cond (eqb k 6) (leb 1 n && leb n 128) (eqb n (digit_of 0x100000100000400 k))) ≡ length_fits k n)
+    refl refl refl refl refl refl refl refl refl refl refl refl refl refl refl refl k (within_known k h)
 
 -- ---- the range of the fixed fields
 

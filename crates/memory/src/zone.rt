@@ -9,7 +9,7 @@ ghost use Rattle.model.specs.Single.{apply};
 ghost use Rattle.memory.specs.ZonePage.{merges_of, StageRight};
 ghost use Rattle.access.specs.VolatileState.{volatile_of};
 
-use crate::page::{self, merged};
+use crate::page;
 use access::register;
 use access::rights::{zone_readable, zone_writable};
 use access::volatile::Volatile;
@@ -73,12 +73,7 @@ pub fn write_zone(card: &mut [u8], state: Volatile, address: u8, bytes: &[u8])
     let base = zone * 256 + address as usize / 16 * 16;
     let end = base + 16;
     let low = address as usize % 16;
-    page::store(
-        &mut card[base..end],
-        low,
-        bytes,
-        |_, old, new| merged(pgo, old, new),
-    );
+    page::store(&mut card[base..end], low, bytes, pgo);
 }
 
 // helper: whether the selected zone may be written, at whatever address.

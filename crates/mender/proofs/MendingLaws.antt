@@ -10,7 +10,7 @@ use Rattle.model.specs.Reader.{records_end}
 use Rattle.model.specs.Refusal.{no_start}
 use Rattle.model.specs.Session.{wrong_length}
 use Rattle.model.specs.Writer.{trailer_bytes}
-use Rattle.model.specs.Mender.{nowhere, found, smallest_start, unmended, mended_by, untrailed_refusal, mend}
+use Rattle.model.specs.Mender.{Search, nowhere, found, smallest_start, unmended, mended_by, untrailed_refusal, mend}
 use Rattle.laws.specs.BoolLaws.{and_left}
 use Rattle.laws.specs.CallLaws.{clear}
 use Rattle.record.specs.RefusalNumber.{refusal_number, number_some}
@@ -28,9 +28,12 @@ module _ (s : List ℕ) where
     unfolding untrailed_refusal
     long_enough = leb-true _ _ (and_left (leb least_session (length s)) _ (not-false _ (clear (wrong_length s) 0 _ (sym accepted)).0))
 
-    pub none_mended : nowhere ≡ smallest_start s → unmended no_start s ≡ mend s
+    pub mended_by_lem : (got : Search) → got ≡ smallest_start s → mended_by s got ≡ mend s
     unfolding mend
-    none_mended e = rw (← accepted) (ap (mended_by s) e)
+    mended_by_lem got e = rw (← accepted) (ap (mended_by s) e)
+
+    pub none_mended : nowhere ≡ smallest_start s → unmended no_start s ≡ mend s
+    none_mended e = mended_by_lem nowhere e
 
     pub found_mended : (start count : ℕ) (l : List ℕ) → found start count ≡ smallest_start s
         → l ≡ sets s (records_end (length s)) (trailer_bytes start count)
@@ -44,4 +47,4 @@ module _ (s : List ℕ) where
         ∙ ap (λ (x : List ℕ). (take (records_end (length s)) s ++ tail) ++ x) (drop_of_length-le s {i = records_end (length s) + 8} (omega arith))
         ∙ append-nil (take (records_end (length s)) s ++ tail)
         in
-        (λ t. record { refusal = 0; start = start; count = count; session = all t }) ∙ rw (← accepted) (ap (mended_by s) e)
+        (λ t. record { refusal = 0; start = start; count = count; session = all t }) ∙ mended_by_lem (found start count) e

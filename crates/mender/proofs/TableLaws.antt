@@ -81,7 +81,7 @@ module _ (s : List ℕ) (counts : List (Option ℕ)) where
       }
 
   -- the count that the table gives for the place before
-  tabled_count : (place : ℕ)
+  pub tabled_count : (place : ℕ)
       → ((p : ℕ) → place + 1 ≤ p → p < records_end (length s) → p < place + 1 + window
       → get_or counts (p % window) None ≡ counted (count_from most_records s p))
       → tabled s counts place ≡ counted (count_from most_records s place)

@@ -37,8 +37,8 @@ pub fn next_at(session: &[u8], at: usize) -> Result<Decoded, Refusal>
     decode(part_at(session, at)?)
 }
 
-// The lengths of the record at a place.
-pub fn measure_at(session: &[u8], at: usize) -> Result<Lengths, Refusal>
+// The lengths of that record.
+pub fn measure_from(session: &[u8], at: usize) -> Result<Lengths, Refusal>
     ensures { measured_of result ≡ measure_of (next_of session.now at) }
 {
     measure(part_at(session, at)?)
@@ -69,6 +69,13 @@ impl<'a> Reader<'a> {
     pub fn measure(self) -> Result<Lengths, Refusal>
         ensures { measured_of result ≡ measure_of (next_of self.entry.session.now self.entry.at) }
     {
-        measure_at(self.session, self.at)
+        measure_from(self.session, self.at)
     }
+}
+
+// The lengths of the record at a place, by a reader there.
+pub fn measure_at(session: &[u8], at: usize) -> Result<Lengths, Refusal>
+    ensures { measured_of result ≡ measure_of (next_of session.now at) }
+{
+    Reader::new(session, at).measure()
 }

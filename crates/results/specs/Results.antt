@@ -21,18 +21,18 @@ mend_result refusal count start = refusal + 2 ^ 8 * count + 2 ^ 32 * start
 
 -- ---- of what the code hands out
 
-abbrev pub result_number : Result ℕ Refusal → ℕ
-result_number (Ok length) = run_result 0 length
-result_number (Err why) = run_result (refusal_number why) 0
+abbrev pub run_number : Result ℕ Refusal → ℕ
+run_number (Ok length) = run_result 0 length
+run_number (Err why) = run_result (refusal_number why) 0
 
-abbrev pub command_number : Result ℕ Refusal → ℕ → ℕ → ℕ
-command_number (Ok length) tries kind = command_result 0 length tries kind
-command_number (Err why) tries kind = command_result (refusal_number why) 0 tries kind
+abbrev pub reply_number : Result ℕ Refusal → ℕ → ℕ → ℕ
+reply_number (Ok length) tries kind = command_result 0 length tries kind
+reply_number (Err why) tries kind = command_result (refusal_number why) 0 tries kind
 
-abbrev pub answer_number : Result (ℕ × ℕ) Refusal → ℕ → ℕ
-answer_number (Ok (from, length)) headers = answer_result 0 length headers from
-answer_number (Err why) headers = answer_result (refusal_number why) 0 headers 0
+abbrev pub place_number : Result (ℕ × ℕ) Refusal → ℕ → ℕ
+place_number (Ok (from, length)) headers = answer_result 0 length headers from
+place_number (Err why) headers = answer_result (refusal_number why) 0 headers 0
 
-abbrev pub mend_number : Result (ℕ × ℕ) Refusal → ℕ
-mend_number (Ok (count, start)) = mend_result 0 count start
-mend_number (Err why) = mend_result (refusal_number why) 0 0
+abbrev pub mended_number : Result (ℕ × ℕ) Refusal → ℕ
+mended_number (Ok (count, start)) = mend_result 0 count start
+mended_number (Err why) = mend_result (refusal_number why) 0 0

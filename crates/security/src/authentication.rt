@@ -11,6 +11,7 @@ use crate::counter::{SpentCounter, spent};
 use crate::report::{Report, reporting};
 use access::volatile::{Authentication, Volatile};
 use sizes::{ATTEMPTS, CRYPTOGRAM};
+use slices::copy;
 
 // helper: begin authentication.
 #[tactic(auto, unfolding(model::specs::Apply::apply))]
@@ -36,7 +37,7 @@ fn renew(card: &mut [u8], bytes: &[u8])
     requires { (length card.old ≡ card_size) × (length bytes.now ≡ 8) }
     ensures { card.new ≡ renewed bytes.now card.old }
 {
-    card[CRYPTOGRAM..CRYPTOGRAM + 8].copy_from_slice(bytes);
+    copy(card, CRYPTOGRAM, bytes, 0, 8);
 }
 
 // helper: verify authentication.

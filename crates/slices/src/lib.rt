@@ -1,5 +1,6 @@
 // Runs of bytes in slices: copied, filled, joined into a number.
-// Kept over the library's methods: these contracts are in the model's words, `sets` and `tab`, which the callers' proofs use.
+// Kept over the library's methods: these contracts are in the model's words, `sets` and `tab`, which the callers' proofs use. And `copy_from_slice`
+// of parts of unknown length asks C for `memmove`, which nothing else does.
 #![tactic(auto)]
 
 ghost use Rattle.std.specs.Prelude.{◌≡◌, ◌++◌, ◌+◌, ◌≤◌, length, take, drop};
@@ -12,7 +13,9 @@ pub fn copy(to: &mut [u8], at: usize, from: &[u8], start: usize, count: usize)
     requires { (at + count ≤ length to.old) × (start + count ≤ length from.now) }
     ensures { to.new ≡ sets to.old at (take count (drop start from.now)) }
 {
-    to[at..at + count].copy_from_slice(&from[start..start + count]);
+    for i in 0..count {
+        to[at + i] = from[start + i];
+    }
 }
 
 // helper: the first bytes of a slice, each made the same byte.

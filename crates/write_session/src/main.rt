@@ -39,7 +39,9 @@ fn open_named(rt: &HostRuntime, argument: usize) -> io::Result<Option<File>> {
 }
 
 // The title, at the front of a space that is longer than any session; one that has no room there counts as the whole space.
-fn read_title<'a>(rt: &impl Env, space: &'a mut [u8]) -> &'a [u8] {
+fn read_title<'a>(rt: &impl Env, space: &'a mut [u8]) -> &'a [u8]
+    ensures { length result.now ≤ length space.old }
+{
     match rt.arg(4, space) {
         Ok(length) => &space[..length],
         Err(FillError::TooLong) => space,

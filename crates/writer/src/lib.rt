@@ -10,6 +10,7 @@ use access::rights::is_fuse_byte;
 use record::decoder::measure;
 use record::refusal::Refusal;
 use sizes::{CARD, FUSES, GREATEST_SESSION, LEAST_SESSION, MOST_RECORDS, MOST_TITLE, TRAILER};
+use slices::copy;
 use staging::staging_fits;
 use trailer::put;
 
@@ -74,9 +75,9 @@ pub fn write_session(
     if session.len() < size {
         return Err(Refusal::NoSpace);
     }
-    session[..CARD].copy_from_slice(card);
-    session[CARD..start].copy_from_slice(title);
-    session[start..end].copy_from_slice(records);
+    copy(session, 0, card, 0, CARD);
+    copy(session, CARD, title, 0, title.len());
+    copy(session, start, records, 0, records.len());
     put(session, end, start, count, 83, 69);
     Ok(size)
 }

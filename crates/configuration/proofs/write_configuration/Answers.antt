@@ -7,4 +7,4 @@ use Rattle.configuration.proofs.write_configuration.Goals as goal
 pub returns : goal.returns
 returns c =
     write_configuration_lem _ _ _ c.new-column.result (ap active_of c.new-column.ensures.active) _ _ _ _ c.new-column.ensures.permissions refl refl
-    c.requires.1 c.requires.0 c.store_allowed.ensures
+    c.requires.1 c.requires.0 c.store_column.ensures

@@ -7,6 +7,6 @@ pub write_state-requires : goal.write_state-requires
 write_state-requires c =
     still_long _ _ _ _ _ _ c.map.ensures.variant (accepted_long _ _ _ _ _ c.read_state-before.ensures _ c.command-replied.ensures)
 
-pub command_number-requires : goal.command_number-requires
-command_number-requires c =
+pub reply_number-requires : goal.reply_number-requires
+reply_number-requires c =
     response_fits _ _ _ _ _ c.read_state-before.ensures _ c.in-Ok.ensures (λ i. omega (arith, c.type_inv.record i))

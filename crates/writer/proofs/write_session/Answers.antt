@@ -1,5 +1,5 @@
 -- Refused, or the parts one after the other.
-use Rattle.std.proofs.Common.{Err, refl, ap, arith, sym, ◌∙◌, length-take-le}
+use Rattle.std.proofs.Common.{Err, refl, ap, arith, sym, ◌∙◌, rules}
 use Rattle.std.proofs.lemmas.Result.{err_from_is_err_and}
 use Rattle.writer.proofs.SessionPutLaws.{fitting, not_written, no_space_lem, session_put}
 use Rattle.writer.proofs.write_session.Goals as goal
@@ -20,14 +20,11 @@ returns-then-session-size c =
     let a = c.in_ok-parts_refusal.ensures in
     no_space_lem _ _ a (omega (arith, c.if-session-size.true, (fitting _ a).size))
 
-pub slice_bounds-copy_from_slice-end-2 : goal.slice_bounds-copy_from_slice-end-2
-slice_bounds-copy_from_slice-end-2 c = sym (length-take-le 2189 c.args.session.now (omega arith))
-
-pub copy_from_slice-requires : goal.copy_from_slice-requires
-copy_from_slice-requires c = length-take-le 2189 c.args.session.now (omega arith) ∙ sym (fitting _ c.in_ok-parts_refusal.ensures).long
+pub copy-requires : goal.copy-requires
+copy-requires c = let f = fitting _ c.in_ok-parts_refusal.ensures in (search rules, omega (arith, f.long))
 
 pub returns : goal.returns
 returns c =
     let a = c.in_ok-parts_refusal.ensures in
-    session_put _ _ a _ _ _ _ _ _ c.copy_from_slice.ensures.after c.copy_from_slice-2.ensures.after c.copy_from_slice-3.ensures.after c.put.ensures
-    refl refl _ (sym (fitting _ a).size) c.if-session-size.false
+    session_put _ _ a _ _ _ _ _ _ c.copy.ensures c.copy-2.ensures c.copy-3.ensures c.put.ensures refl refl _ (sym (fitting _ a).size)
+    c.if-session-size.false

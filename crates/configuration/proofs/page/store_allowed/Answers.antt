@@ -1,9 +1,9 @@
-use Rattle.std.proofs.Common.{rules}
-use Rattle.laws.specs.Loops.{stores_next, stores_done}
+-- The two rules are the same.
+use Rattle.std.proofs.Common.{ℕ, ◌+◌, ◌%◌, ◌∙◌, refl}
+use Rattle.laws.specs.Loops.{stores_cong}
 use Rattle.configuration.proofs.page.store_allowed.Goals as goal
 
-pub loop-i-preserved : goal.loop-i-preserved
-loop-i-preserved c = search (rules, stores_next)
-
 pub returns : goal.returns
-returns c = search stores_done
+returns c =
+    c.store_column.ensures
+    ∙ stores_cong _ _ _ _ (λ k. refl) (λ k old new. rw (c.of_codes.ensures (c.args.first + (c.args.low + k) % 16))) c.args.bytes.now 0 c.args.page.now

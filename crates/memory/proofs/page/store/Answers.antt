@@ -1,5 +1,6 @@
-use Rattle.laws.specs.Loops.{stores_done}
+-- The rule that the closure is.
+use borrow.Author.Rules.{rules}
 use Rattle.memory.proofs.page.store.Goals as goal
 
 pub returns : goal.returns
-returns g c = λ rule given. stores_done rule _ c.args.bytes.now _ _ _ (c.loop-i.invariant rule given) c.loop-i-test.false
+returns c = c.store_by.ensures _ (λ i old new r h h' h'' q. search rules)

@@ -12,4 +12,4 @@ returns-then-not-zone_writable c = write_zone_shut _ _ _ c.requires.1 _ _ c.zone
 pub returns : goal.returns
 returns c =
     write_zone_open _ _ c.args.address c.requires.1 _ _ _ _ _ c.zone_writable.ensures (ap not c.if-not-zone_writable.false) c.merges-pgo.ensures refl
-    (search rules) c.requires.0 (c.store.ensures _ (λ i old new r h h' h'' q. search rules))
+    (search rules) c.requires.0 c.store.ensures

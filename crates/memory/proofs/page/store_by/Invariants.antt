@@ -1,7 +1,7 @@
 -- What is still to be stored gives what all of it gives.
 use Rattle.std.specs.Prelude.{ℕ, ◌+◌, ◌%◌, ◌<◌, ◌≡◌, drop}
 use Rattle.model.specs.Lists.{stores}
-use Rattle.memory.proofs.page.store.Given as goal
+use Rattle.memory.proofs.page.store_by.Given as goal
 
 abbrev pub invariant-loop-i : goal.invariant-loop-i
 invariant-loop-i g l =
